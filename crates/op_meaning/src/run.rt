@@ -1,6 +1,6 @@
 //! A place of a trace, run on a part of the world.
 ghost use Rattle.std.specs.Prelude.{◌≡◌, ◌<◌, ◌≤◌, ◌^◌, [], map, IfOk, IfSome};
-ghost use Rattle.std.specs.Prelude.{None, OnOk, Some, false, pos, true};
+ghost use Rattle.std.specs.Prelude.{OnOk, Some, false, pos, true};
 ghost use Rattle.chain_plan.specs.Chain.{role};
 ghost use Rattle.entry_checks.specs.Meant.{meant};
 ghost use Rattle.entry_checks.specs.Operation.{asked, told};
@@ -10,10 +10,10 @@ ghost use Rattle.op_meaning.specs.Site.{IsSite};
 ghost use Rattle.op_meaning.specs.Step.{breaks, error_reply, filled_slot, held_by};
 ghost use Rattle.op_meaning.specs.Step.{reply_of, step_reply, step_world};
 ghost use Rattle.op_meaning.specs.Step as step;
-ghost use Rattle.op_meaning.specs.Turns.{turn_world};
+ghost use Rattle.op_meaning.specs.Turns.{call_meant, turn_world};
 ghost use Rattle.trace_format.specs.Sides.{most_moved};
 ghost use Rattle.trace_records.specs.declared.record.FullSlot as full;
-ghost use Rattle.recording.specs.Steps.{places};
+ghost use Rattle.recording.specs.Steps.{places, step_at, step_meant};
 ghost use Rattle.recording.specs.Accepted.{IsAccepted};
 ghost use Rattle.world_parts.specs.World.{apply_all};
 
@@ -22,11 +22,11 @@ use crate::outcome::Outcome;
 use crate::reply::Reply;
 use crate::rows::run_operation;
 use crate::site::Site;
-use crate::turn::{Turn, TurnKind, turn_of};
+use crate::turn::{Call, Turn, TurnKind, turn_in};
 use chain_plan::Role;
 use entry_checks::Op;
 use extent_bytes::ReadBytes;
-use recording::{Entry, FullSlot, Holder, Recording};
+use recording::{Entry, FullSlot, Holder, Recording, Step};
 use sqe_codec::{CQE_SKIP_SUCCESS, Errno, IO_HARDLINK};
 use std::alloc::{AllocError, Global};
 use world_parts::{Broken, Part, State};
@@ -71,7 +71,30 @@ pub fn run_on_state(
     ensures reply { IfOk result (λ reply. Some reply ≡ step_reply trace.now place state.old) }
     ensures state { OnOk result (state.new ≡ step_world trace.now place state.old) }
 {
-    let Turn { ring, kind } = turn_of(place, trace, role_there, state);
+    run_step(alloc, place, trace, &trace.step(place), role_there, state)
+}
+
+/// The same, by the step of the place, for who has it at hand.
+///
+/// # Errors
+///
+/// Out of memory; the state can then only be dropped.
+#[inline(always)]
+pub fn run_step(
+    alloc: Global,
+    place: u32,
+    trace: &Recording,
+    there: &Step<'_>,
+    role_there: &Role,
+    state: &mut State,
+) -> Result<Reply, AllocError>
+    requires trace { IsAccepted trace.now }
+    requires there { step_at trace.now place ≡ Some (step_meant there.now) }
+    requires role { role_there.now ≡ role trace.now place }
+    ensures reply { IfOk result (λ reply. Some reply ≡ step_reply trace.now place state.old) }
+    ensures state { OnOk result (state.new ≡ step_world trace.now place state.old) }
+{
+    let Turn { ring, kind } = turn_in(place, trace, there, role_there, state);
     match &kind {
         TurnKind::Fills {
             buffer,
@@ -86,9 +109,9 @@ pub fn run_on_state(
             register(alloc, ring, slots.as_slice(), state)?;
             Ok(silent(alloc))
         }
-        TurnKind::Calls { op } => {
+        TurnKind::Calls { call: made } => {
             let site = Site { trace, place, ring };
-            call(alloc, site, *op, state)
+            call(alloc, site, *made, state)
         }
         TurnKind::Refused { error, posted } => Ok(refused(alloc, *error, *posted)),
         TurnKind::Canceled { posted } => Ok(refused(alloc, Errno::ECANCELED, *posted)),
@@ -101,17 +124,21 @@ pub fn run_on_state(
 
 /// Does what a call of the program did.
 #[inline(never)]
-fn call(alloc: Global, site: Site<'_>, op: Op<'_>, state: &mut State) -> Result<Reply, AllocError>
+fn call(
+    alloc: Global,
+    site: Site<'_>,
+    made: Call<'_>,
+    state: &mut State,
+) -> Result<Reply, AllocError>
     requires site { IsSite site }
-    requires moves_none { asked (meant op) ≡ None }
     ensures reply { IfOk result (λ reply. reply
         ≡ reply_of site.entry.trace.now site.entry.place state.old
-        (step.called site.entry.ring (meant op.entry))) }
+        (step.called site.entry.ring (call_meant made.entry))) }
     ensures state { OnOk result (state.new
         ≡ turn_world site.entry.trace.now site.entry.place state.old
-        (step.called site.entry.ring (meant op.entry))) }
+        (step.called site.entry.ring (call_meant made.entry))) }
 {
-    let _ = run_operation(alloc, site, op, state)?;
+    let _ = run_operation(alloc, site, made.op(), state)?;
     Ok(silent(alloc))
 }
 

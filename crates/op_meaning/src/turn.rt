@@ -9,22 +9,49 @@ ghost use Rattle.op_meaning.specs.Step as step;
 ghost use Rattle.op_meaning.specs.Turns.{IsShort, kind_meant, turn_meant};
 ghost use Rattle.op_meaning.specs.Step.{ring_at};
 ghost use Rattle.trace_format.specs.Sides.{most_moved, SideFits};
-ghost use Rattle.recording.specs.Steps.{places, ring_of};
+ghost use Rattle.recording.specs.Steps.{places, step_at, step_meant};
 ghost use Rattle.recording.specs.Accepted.{IsAccepted};
 ghost use Rattle.world_parts.specs.Uses.{broken_meant};
 ghost use Rattle.world_parts.specs.World.{broken};
 
 use chain_plan::Role;
 use entry_checks::{FileNumber, Op, PathAt, check, open_flags_of};
-use recording::{Action, Blob, Content, Entry, FileAt, FullSlot, Recording, Series};
+use recording::{Action, Blob, Content, Entry, FileAt, FullSlot, Recording, Series, Step, ring_of};
 use sqe_codec::Errno;
 use world_parts::{Broken, State};
 
 /// `AT_FDCWD`, the working directory.
 const WORKING_DIRECTORY: i32 = -100;
 
-/// The ring of what is on none: all rings have numbers below it.
-const NO_RING: u32 = 1_048_576;
+/// What a call of the program did between two submissions.
+#[derive(Clone, Copy)]
+pub enum Call<'a> {
+    /// A slot or a descriptor holds this from there on.
+    Set { file: FileAt, content: &'a Content },
+    /// What a slot or a descriptor holds has this position from there on.
+    Seek { file: FileAt, position: u64 },
+}
+
+impl<'a> Call<'a> {
+    ghost use Rattle.op_meaning.specs.Turns.{call_meant};
+
+    /// The operation that it is. A turn has the call in its place, so that the turn of an entry
+    /// need not pass through memory.
+    #[inline(never)]
+    #[tactic(auto, using(crate::proofs::Turns::sets_ask_none))]
+    pub fn op(self) -> Op<'a>
+        ensures operation { meant result ≡ call_meant self.entry }
+        ensures moves_none { asked (meant result) ≡ None }
+    {
+        match self {
+            Call::Set { file, content } => set_operation(file, content),
+            Call::Seek { file, position } => Op::Seek {
+                file: file_in(file),
+                position,
+            },
+        }
+    }
+}
 
 /// What a place does, and the ring of which it is.
 #[derive(Drop)]
@@ -48,7 +75,7 @@ pub enum TurnKind<'a> {
     Registers(&'a Series<FullSlot>),
     /// It does what a call of the program did, which replies 0 whatever came of it.
     Calls {
-        op: Op<'a>,
+        call: Call<'a>,
     },
     /// It fails its tests, or stands in a chain in which a member does: its error, and whether a
     /// completion is posted.
@@ -83,8 +110,27 @@ pub fn turn_under<'a>(
         ≡ step.turn_under trace.now place (option_map broken_meant flag) }
     ensures short { IsShort result.kind }
 {
-    let step = trace.step(place);
-    let kind = match &step.action {
+    turn_by(place, trace, &trace.step(place), role_there, flag)
+}
+
+/// The same, by the step of the place.
+#[inline(always)]
+fn turn_by<'a>(
+    place: u32,
+    trace: &'a Recording,
+    there: &Step<'a>,
+    role_there: &Role,
+    flag: Option<Broken>,
+) -> Turn<'a>
+    requires trace { IsAccepted trace.now }
+    requires there { step_at trace.now place ≡ Some (step_meant there.now) }
+    requires role { role_there.now ≡ role trace.now place }
+    ensures ring { result.ring ≡ ring_at trace.now place }
+    ensures turn { Some (turn_meant result)
+        ≡ step.turn_under trace.now place (option_map broken_meant flag) }
+    ensures short { IsShort result.kind }
+{
+    let kind = match &there.action {
         Action::Submit(entry) => submitted(trace, entry, role_there, flag),
         Action::Fill {
             buffer,
@@ -97,17 +143,20 @@ pub fn turn_under<'a>(
         },
         Action::Register(slots) => TurnKind::Registers(*slots),
         Action::Set { file, content } => TurnKind::Calls {
-            op: set_operation(*file, *content),
+            call: Call::Set {
+                file: *file,
+                content: *content,
+            },
         },
         Action::Seek { file, position } => TurnKind::Calls {
-            op: Op::Seek {
-                file: file_in(*file),
+            call: Call::Seek {
+                file: *file,
                 position: *position,
             },
         },
     };
     Turn {
-        ring: step.ring,
+        ring: there.ring,
         kind,
     }
 }
@@ -119,16 +168,6 @@ fn file_in(file: FileAt) -> FileNumber
     match file {
         FileAt::Slot { ring: _, number } => FileNumber::Slot(number),
         FileAt::Descriptor { number } => FileNumber::Descriptor(number),
-    }
-}
-
-/// The ring of a slot. A descriptor is on none.
-fn ring_of(file: FileAt) -> u32
-    ensures { result ≡ ring_of file }
-{
-    match file {
-        FileAt::Slot { ring, number: _ } => ring,
-        FileAt::Descriptor { number: _ } => NO_RING,
     }
 }
 
@@ -220,7 +259,26 @@ pub fn turn_of<'a>(place: u32, trace: &'a Recording, role_there: &Role, state: &
     ensures turn { Some (turn_meant result) ≡ step.turn trace.now place state.now }
     ensures short { IsShort result.kind }
 {
-    turn_under(place, trace, role_there, flag(role_there, state))
+    turn_in(place, trace, &trace.step(place), role_there, state)
+}
+
+/// The same, by the step of the place.
+#[inline(always)]
+pub(crate) fn turn_in<'a>(
+    place: u32,
+    trace: &'a Recording,
+    there: &Step<'a>,
+    role_there: &Role,
+    state: &State,
+) -> Turn<'a>
+    requires trace { IsAccepted trace.now }
+    requires there { step_at trace.now place ≡ Some (step_meant there.now) }
+    requires role { role_there.now ≡ role trace.now place }
+    ensures ring { result.ring ≡ ring_at trace.now place }
+    ensures turn { Some (turn_meant result) ≡ step.turn trace.now place state.now }
+    ensures short { IsShort result.kind }
+{
+    turn_by(place, trace, there, role_there, flag(role_there, state))
 }
 
 /// The flag of a chain of two or more.

@@ -9,7 +9,7 @@ use Rattle.foot_print.specs.Reach.{is_canceled}
 use Rattle.foot_print.specs.declared.reaching.Awaited.TheVariants.{Reach}
 use Rattle.item_index.specs.Ahead.{written_before}
 use Rattle.foot_print.specs.Footprint.{order_uses, turn_uses}
-use Rattle.op_meaning.specs.Step.{filled, registered}
+use Rattle.op_meaning.specs.Step.{called, filled, registered}
 use Rattle.op_meaning.specs.Turns.{kind_meant}
 use Rattle.op_meaning.specs.declared.turn.TurnKind.{TurnKind}
 use Rattle.world_parts.specs.Items.{Footprint}
@@ -67,6 +67,6 @@ pub returns-in-Calls : goal.returns-in-Calls
 returns-in-Calls c =
     let r = c.turn_under-ring.result.ring in
     let f = c.in-Calls in
-    let task = ap (λ kind. Some (kind_meant r kind)) (sym f.is) ∙ c.turn_under-ring.ensures.turn in
-    calls_outlook c.args.trace.now c.args.place c.args.state.now (written_before c.args.behind.now) r c.args.role_there.now (meant f.op) c.turn_under-ring.ensures.ring c.requires.role task
+    let task = ap (λ o. Some (called r o)) c.op.ensures.operation ∙ ap (λ kind. Some (kind_meant r kind)) (sym f.is) ∙ c.turn_under-ring.ensures.turn in
+    calls_outlook c.args.trace.now c.args.place c.args.state.now (written_before c.args.behind.now) r c.args.role_there.now (meant c.op.result) c.turn_under-ring.ensures.ring c.requires.role task
     c.operation_outlook.result c.operation_outlook.ensures.reach c.operation_outlook.ensures.awaits
