@@ -8,7 +8,7 @@ ghost use Rattle.recording.specs.Accepted.{IsAccepted};
 ghost use Rattle.world_parts.specs.Start.{start};
 
 use chain_plan::Stretch;
-use op_meaning::run_on_state;
+use op_meaning::run_step;
 use recording::Recording;
 use replay_core::ReplayFault;
 use replay_report::{Answer, Lines, Pieces, RingTexts, Shown, report_of_texts};
@@ -64,8 +64,9 @@ fn texts_in_turn(
         if place == plan.end() {
             plan = plan.next(trace, AHEAD)?;
         }
-        let reply = run_on_state(alloc, place, trace, &plan.role(place), state)?;
-        texts.push(place, &trace.step(place), &Answer::of(&reply), lines)?;
+        let step = trace.step(place);
+        let reply = run_step(alloc, place, trace, &step, &plan.role(place), state)?;
+        texts.push(place, &step, &Answer::of(&reply), lines)?;
     }
     Ok(texts)
 }

@@ -23,9 +23,9 @@ has_place c =
       })
     ]
 
-pub run_on_state-requires-clause-role : goal.run_on_state-requires-clause-role
-run_on_state-requires-clause-role c =
-    let has = has_place (goal.at.run_on_state-requires-clause-role c).After-role in
+pub run_step-requires-clause-role : goal.run_step-requires-clause-role
+run_step-requires-clause-role c =
+    let has = has_place (goal.at.run_step-requires-clause-role c).After-role in
     role_in c.args.trace.now c.if-place-end.plan c.loop-place.place _ has.stretch has.from c.role.ensures.at_place
 
 pub loop-place-preserved : goal.loop-place-preserved
@@ -37,8 +37,8 @@ loop-place-preserved c =
     record {
       state = rw add-one (c.in_ok-reply.ensures.state ∙ ap (step_world t k) c.loop-place.invariant.state);
       texts = c.in_ok-push.ensures
-          ∙ answer_walked t (sequential_reply t) c.args.lines k (list_count c.args.lines t) (step_meant c.step.result) c.of.result c.in_ok-reply.reply c.loop-place.texts
-          c.step.ensures answers c.of.ensures c.loop-place.invariant.texts;
+          ∙ answer_walked t (sequential_reply t) c.args.lines k (list_count c.args.lines t) (step_meant c.step-step.result) c.of.result c.in_ok-reply.reply c.loop-place.texts
+          c.step-step.ensures answers c.of.ensures c.loop-place.invariant.texts;
       stretch = has.stretch;
       from = omega (arith, has.from);
       within = omega (arith, has.within);

@@ -1,7 +1,7 @@
 use Rattle.std.proofs.Common.{arith, subst}
 use Rattle.std.specs.Io.KnownBytes.{Appends}
 use Rattle.byte_transfer.specs.Transfer.{AppendsPart}
-use Rattle.trace_format.proofs.Spotted.{on_err}
+use Rattle.trace_format.proofs.Lasting.{on_err}
 use Rattle.replay_program.proofs.TransferLemmas.{piece_more, piece_part}
 use Rattle.replay_program.proofs.session.written_pieces.Goals as goal
 
