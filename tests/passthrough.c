@@ -223,7 +223,7 @@ static ssize_t write_shared(uint64_t number, int file, const void *bytes, size_t
     int other = other_file(number);
     ssize_t kept = other < 0 ? 0 : pread(other, shared, sizeof shared, 0);
 
-    usleep(3000);
+    usleep(10000);
     ssize_t done = pwrite(file, bytes, size, offset);
     if (kept > 0 && pwrite(other, shared, (size_t)kept, 0) < 0)
         perror("passthrough: write back");

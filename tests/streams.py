@@ -427,12 +427,30 @@ def pages_alone(program: Program) -> List[Outcome]:
     return [Outcome("the memory of {} records of which a page is left, by {}".format(RECORDS, program.compiler), None if is_well else "{}, and {} KiB".format(shown(got), peak))]
 
 
+# Records of so many bytes, each written over the one before; and the most KiB: of the file, of what takes its place, of one record, and some more.
+LARGE, LARGEST = 40 << 20, (3 * 40 + 8) << 10
+
+
+def one_at_a_time(program: Program) -> List[Outcome]:
+    """A record is let go before the next one is read, so that one buffer is enough."""
+    slots = [(0, (record_traces.DESCRIPTION, 0, 0))]
+    with Fed(program, ["serial"]) as fed:
+        fed.give(record_traces.head(1, 1) + record_traces.file(b"/a", 0) + description(1) + record_traces.ring(1, slots))
+        for number in range(4):
+            fed.give(record_traces.enter(0, [record_traces.stored(entry(WRITE, FIXED_FILE, 0, length=LARGE, side=bytes([1 + number]) * LARGE))]))
+        peak = fed.peak()
+        fed.give(record_traces.END)
+        got = fed.end()
+    is_well = got.status == 0 and "\nfile /a node=1 size={}\n".format(LARGE).encode() in got.output and peak <= LARGEST
+    return [Outcome("the memory of records of {} bytes, by {}".format(LARGE, program.compiler), None if is_well else "{}, and {} KiB".format(shown(got), peak))]
+
+
 def jobs(programs: List[Program]) -> List[Job]:
     each = FRONTS // LOTS
     starts = [at + back for back in (0, days.first_seed()) for at in range(0, FRONTS, each)]
     made: List[Job] = [partial(in_memory, programs[0], it) for it in BOUNDED] + [partial(of_model, it) for it in BOUNDED if "--json" not in it.words]
     for program in programs:
-        made += [partial(it, program) for it in (outputs, told_at_once, nothing_before, not_cut, pages_alone)]
+        made += [partial(it, program) for it in (outputs, told_at_once, nothing_before, not_cut, pages_alone, one_at_a_time)]
         made += [partial(prompt, program, *it) for it in of_sizes()]
         made.append(partial(lot, program, "traces of version 3 that come in pieces", of_pieces, range(IN_PIECES)))
         made += [partial(lot, program, label, tried, range(at, at + each)) for label, tried in (("fronts of traces of version 3", of_front), ("such fronts with --cut", of_cut))

@@ -11,6 +11,8 @@ use Rattle.byte_transfer.specs.Transfer.{AppendsSome, Takes}
 use Rattle.byte_transfer.proofs.Beginnings.{some_behind, some_of_all, some_of_none}
 use Rattle.json_lines.specs.Forms.{written_as}
 use Rattle.json_lines.specs.declared.form.Form.{Form}
+use Rattle.json_lines.specs.declared.writing.WriteFault.{WriteFault}
+use Rattle.json_lines.specs.declared.writing.WriteFault.TheVariants as write
 use Rattle.json_lines.proofs.Whole.{empty_whole, written_behind, written_empty}
 use Rattle.report_diff.specs.declared.comparing.Comparison.{Comparison}
 use Rattle.report_diff.specs.declared.comparing.DiffFault.{DiffFault}
@@ -28,7 +30,7 @@ use Rattle.diff_stream.specs.declared.held.Sides.{Sides}
 use Rattle.diff_stream.specs.declared.fault.CompareFault.{CompareFault}
 use Rattle.diff_stream.specs.declared.fault.CompareFault.TheVariants.{Refused, Memory, Read, Write}
 use Rattle.diff_stream.specs.Compared.{ReadsBoth, WritesComparison, WritesSome, WritesUpTo}
-use Rattle.diff_stream.specs.Faults.{IsOutside, of_diff}
+use Rattle.diff_stream.specs.Faults.{IsOutside, of_diff, of_write}
 use Rattle.diff_stream.specs.Steps.{Begins, Begun, FrontsEnd, HoldsAll, IsOther, LeavesAll, SideEnds, Stands}
 use Rattle.diff_stream.proofs.FirstLines.{first_of_lines, first_of_whole, no_whole, passed_on}
 
@@ -38,6 +40,11 @@ up_to form l l' r r' w w' (Refused why) out some = absurd out
 up_to form l l' r r' w w' Memory out some = some
 up_to form l l' r r' w w' Read out some = some
 up_to form l l' r r' w w' Write out some = some
+
+-- a fault of what writes a text in a form
+pub up_to_write : (form : Form) (l l' r r' w w' : Option (List ℕ)) (f : WriteFault) → WritesSome form l l' r r' w w' → WritesUpTo form l l' r r' w w' (of_write f)
+up_to_write form l l' r r' w w' write.Memory some = some
+up_to_write form l l' r r' w w' write.Write some = some
 
 -- nothing was written
 pub nothing_written : (form : Form) (l l' r r' w : Option (List ℕ)) → Takes l l' → Takes r r' → WritesSome form l l' r r' w w

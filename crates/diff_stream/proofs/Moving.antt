@@ -3,29 +3,14 @@ use Rattle.std.proofs.Common.{◌≡◌, ◌⊎◌, ◌++◌, ℕ, List, [], Opt
 use Rattle.std.specs.Io.KnownBytes.{Appends}
 use Rattle.std.proofs.KnownBytes.{Appends-nil, Appends-trans}
 use Rattle.std.proofs.lemmas.List.{append-nil}
-use Rattle.byte_transfer.specs.Transfer.{AppendsPart, AppendsSome}
-use Rattle.byte_transfer.proofs.Beginnings.{some_of_all, some_of_part}
+use Rattle.byte_transfer.proofs.Beginnings.{some_of_all}
 use Rattle.json_lines.specs.Forms.{IsWhole, written_as}
-use Rattle.json_lines.specs.Lines.{json_lines}
 use Rattle.json_lines.specs.declared.form.Form.{Form}
-use Rattle.json_lines.specs.declared.form.Form.TheVariants.{Text, Json}
 use Rattle.json_lines.proofs.Whole.{written_behind, written_empty}
 use Rattle.report_diff.specs.declared.fronts.Merging.{Merging}
 use Rattle.report_diff.specs.Merging.{Merges}
 use Rattle.diff_stream.specs.Steps.{Moves, StopsAt}
 use Rattle.diff_stream.proofs.FoundLines.{merged_whole}
-
--- ---- beginnings of a text in a form
-
-pub some_of_text : (form : Form) (w w' : Option (List ℕ)) (text : List ℕ) → form ≡ Text → AppendsPart w w' text → AppendsSome w w' (written_as form text)
-some_of_text form w w' text is part = subst (λ f. AppendsSome w w' (written_as f text)) (sym is) (some_of_part w w' text part)
-
-pub some_of_json : (form : Form) (w w' : Option (List ℕ)) (text json : List ℕ) → form ≡ Json → json ≡ json_lines text → AppendsPart w w' json
-    → AppendsSome w w' (written_as form text)
-some_of_json form w w' text json is objects part =
-    subst (λ f. AppendsSome w w' (written_as f text)) (sym is) (subst (AppendsSome w w') objects (some_of_part w w' json part))
-
--- ---- what was found
 
 pub stays : (form : Form) (m : Merging) (w : Option (List ℕ)) → Moves form m m w w
 stays form m w = record {

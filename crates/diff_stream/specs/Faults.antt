@@ -2,6 +2,8 @@
 use Rattle.std.specs.Prelude.{⊤, ℕ, Result, Ok, Err}
 use Rattle.byte_transfer.specs.declared.transfer.TextFault.{TextFault}
 use Rattle.byte_transfer.specs.declared.transfer.TextFault.TheVariants as text
+use Rattle.json_lines.specs.declared.writing.WriteFault.{WriteFault}
+use Rattle.json_lines.specs.declared.writing.WriteFault.TheVariants as write
 use Rattle.report_diff.specs.declared.comparing.DiffFault.{DiffFault}
 use Rattle.report_diff.specs.declared.comparing.DiffFault.TheVariants as diff
 use Rattle.diff_stream.specs.declared.fault.CompareFault.{CompareFault}
@@ -11,6 +13,10 @@ use Rattle.diff_stream.specs.declared.fault.CompareFault.TheVariants.{Refused, M
 abbrev pub of_text : TextFault → CompareFault
 of_text text.Read = Read
 of_text text.Memory = Memory
+
+abbrev pub of_write : WriteFault → CompareFault
+of_write write.Memory = Memory
+of_write write.Write = Write
 
 abbrev pub of_diff : DiffFault → CompareFault
 of_diff (diff.Refused why) = Refused why

@@ -1,9 +1,10 @@
 //! Why a comparison is not written whole.
 ghost use Rattle.std.specs.Prelude.{◌≡◌};
-ghost use Rattle.diff_stream.specs.Faults.{of_diff, of_text};
-ghost use Rattle.diff_stream.specs.declared.fault.CompareFault.TheVariants.{Memory, Write};
+ghost use Rattle.diff_stream.specs.Faults.{of_diff, of_text, of_write};
+ghost use Rattle.diff_stream.specs.declared.fault.CompareFault.TheVariants.{Memory};
 
-use byte_transfer::{Failed, TextFault};
+use byte_transfer::TextFault;
+use json_lines::WriteFault;
 use report_diff::{DiffFault, Refusal};
 use std::alloc::AllocError;
 
@@ -28,11 +29,14 @@ impl From<AllocError> for CompareFault {
     }
 }
 
-impl From<Failed> for CompareFault {
-    ghost from_gives = { λ _ e. e ≡ Write };
+impl From<WriteFault> for CompareFault {
+    ghost from_gives = { λ f e. e ≡ of_write f };
 
-    fn from(_e: Failed) -> CompareFault {
-        CompareFault::Write
+    fn from(fault: WriteFault) -> CompareFault {
+        match fault {
+            WriteFault::Memory => CompareFault::Memory,
+            WriteFault::Write => CompareFault::Write,
+        }
     }
 }
 

@@ -7,7 +7,6 @@ mod held;
 mod merge;
 mod report;
 mod side;
-mod writing;
 
 pub use fault::CompareFault;
 pub use report::write_differences;

@@ -7,9 +7,8 @@ ghost use Rattle.diff_stream.specs.Steps.{HasLine, LeavesAll, Moves, StopsAt};
 
 use crate::fault::CompareFault;
 use crate::held::Side;
-use crate::writing::write_as;
 use byte_transfer::{Sink, Source};
-use json_lines::Form;
+use json_lines::{Form, write_as};
 use report_diff::Merging;
 use std::alloc::Global;
 

@@ -6,6 +6,7 @@ pub mod Whole
 pub mod PageFacts
 pub mod Fronts
 pub mod Overlays
+pub mod Parted
 pub mod Moves
 pub mod ExtentFacts
 pub mod Compares

@@ -4,6 +4,7 @@ ghost use Rattle.std.specs.Prelude.{length, slice_index};
 ghost use Rattle.std.specs.Prelude.{OnOk, OnErr};
 ghost use Rattle.extent_bytes.specs.Pages.{byte_at, SameBytes};
 ghost use Rattle.extent_bytes.specs.Pages.{SameBelow, Overlaid, WrittenAt, Completed};
+ghost use Rattle.extent_bytes.specs.Parted.{HasParted};
 
 use crate::page::PAGE_SIZE;
 use crate::page_bytes::{PAGE, copy_bytes, put_range};
@@ -89,6 +90,24 @@ pub(crate) fn zero_range(
     Ok(())
 }
 
+// Where a position lies within a page, shares that page with a patch, whose page 0 is page `first`.
+fn share_parted(
+    pages: &Pages,
+    alloc: Global,
+    patch: &mut Pages,
+    first: u64,
+    position: u64,
+) -> Result<(), AllocError>
+    requires { first ≤ position / 4096 }
+    ensures { OnOk result (HasParted pages.now patch.old patch.new first position) }
+{
+    if position % PAGE == 0 {
+        return Ok(());
+    }
+    let number = position / PAGE;
+    copy_bytes(patch, alloc, number - first, pages, number, 0, PAGE_SIZE)
+}
+
 // Writes the bytes from `at` on.
 fn replace_range(pages: &mut Pages, alloc: Global, at: u64, bytes: &[u8]) -> Result<(), AllocError>
     requires { at + length bytes.now < 2 ^ 63 }
@@ -102,12 +121,17 @@ fn replace_range(pages: &mut Pages, alloc: Global, at: u64, bytes: &[u8]) -> Res
     let hi = at + bytes.len() as u64;
     let first = at / PAGE;
     let offset = at % PAGE;
-    if first == (hi - 1) / PAGE {
+    let last = (hi - 1) / PAGE;
+    if first == last {
         return pages.write(alloc, first, offset as usize, bytes);
     }
+    let (ahead, behind) = bytes.split_at((last * PAGE - at) as usize);
     let mut patch = Pages::new(alloc);
-    put_range(&mut patch, alloc, offset, bytes)?;
-    overlay(pages, alloc, patch, at, hi)
+    share_parted(pages, alloc, &mut patch, first, at)?;
+    put_range(&mut patch, alloc, offset, ahead)?;
+    share_parted(pages, alloc, &mut patch, first, hi)?;
+    put_range(&mut patch, alloc, (last - first) * PAGE, behind)?;
+    pages.splice(alloc, first, last + 1, patch)
 }
 
 // Writes the bytes from `at` on, and zeros before them from `end` on. What lies at `end` and above

@@ -12,7 +12,7 @@ use std::alloc::{AllocError, Global};
 
 pub(crate) const PAGE: u64 = PAGE_SIZE as u64;
 
-// Writes a part of a page of another map into the same part of one page.
+// Writes a part of a page of another map into the same part of one page. A whole page is shared.
 pub(crate) fn copy_bytes(
     pages: &mut Pages,
     alloc: Global,
@@ -33,6 +33,9 @@ pub(crate) fn copy_bytes(
     }
     match source.get(source_number) {
         Some(page) => {
+            if to - from == PAGE_SIZE {
+                return pages.put(alloc, number, page.clone()?);
+            }
             let bytes = page.as_slice();
             pages.write(alloc, number, from, &bytes[from..to])
         }

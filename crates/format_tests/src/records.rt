@@ -3,7 +3,7 @@
 use std::alloc::{AllocError, Global};
 use std::sync::Arc;
 use std::test::Fail;
-use trace_format::{Kind, Text};
+use trace_format::{Kind, Text, TextSlice};
 use trace_records::{
     Beside, Front, Record, read_record, read_start, read_trace, write_end, write_record,
     write_start, write_trace,
@@ -61,7 +61,8 @@ fn is_written_by_parts(alloc: Global, bytes: &[u8], records: u32) -> Result<bool
         if at > buffer.len() {
             return Ok(false);
         }
-        let Ok((made, used)) = read_record(alloc, &start, &front, &buffer, at, at as u64) else {
+        let bytes = TextSlice::of(&buffer, at, buffer.len() - at);
+        let Ok((made, used)) = read_record(alloc, &start, &front, bytes, at as u64) else {
             return Ok(false);
         };
         at = at.saturating_add(used);
@@ -114,14 +115,15 @@ fn shares_the_buffer(alloc: Global, buffer: &Text) -> Result<bool, AllocError> {
         return Ok(false);
     };
     let mut front = Front::new(alloc);
-    let Ok((ring, used)) = read_record(alloc, &start, &front, buffer, at, at as u64) else {
+    let bytes = TextSlice::of(buffer, at, buffer.len() - at);
+    let Ok((ring, used)) = read_record(alloc, &start, &front, bytes, at as u64) else {
         return Ok(false);
     };
     if let Some(ring) = ring {
         front.add(alloc, &ring)?;
     }
-    let at = at + used;
-    match read_record(alloc, &start, &front, buffer, at, at as u64) {
+    let bytes = bytes.behind(used);
+    match read_record(alloc, &start, &front, bytes, (at + used) as u64) {
         Ok((Some(record), _)) => Ok(is_in_the_buffer(&record) && Arc::strong_count(buffer) == 2),
         _ => Ok(false),
     }

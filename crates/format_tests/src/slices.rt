@@ -3,7 +3,7 @@
 use sqe_codec::unpack;
 use std::alloc::{AllocError, Global};
 use std::sync::Arc;
-use trace_format::{Blob, EntriesBuilder, GatheredBuilder, Given, TextSlice};
+use trace_format::{Blob, EntriesBuilder, EntryBuf, Gathered, Given, TextSlice};
 
 /// Whether they are the six bytes `abcdef` at this place of their text, and so are their parts.
 fn is_the_word(bytes: TextSlice<'_>, from: usize) -> bool {
@@ -46,11 +46,11 @@ fn is_gathered(alloc: Global) -> Result<bool, AllocError> {
         fails: true,
     };
     let text = Arc::new(alloc, Vec::from_slice(alloc, b"xyabcdef")?)?;
-    let mut builder = GatheredBuilder::with_room(alloc, 3)?;
-    builder.push(&sqe, Blob::empty(), Some(failed))?;
-    builder.push(&sqe, Blob::part(&text, 2, 6)?, None)?;
-    builder.push(&sqe, Blob::empty(), None)?;
-    let entries = builder.build(alloc)?;
+    let mut entries = Vec::with_capacity(alloc, 3)?;
+    entries.push(EntryBuf::new(sqe, Blob::empty(), Some(failed)))?;
+    entries.push(EntryBuf::new(sqe, Blob::part(&text, 2, 6)?, None))?;
+    entries.push(EntryBuf::new(sqe, Blob::empty(), None))?;
+    let entries = Gathered::new(alloc, entries)?;
     Ok(
         entries.len() == 3
             && entries.at(0).given() == Some(failed)

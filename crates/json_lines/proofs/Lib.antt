@@ -1,3 +1,4 @@
 mod Slices
 mod Feed
 pub mod Whole
+pub mod Unwritten

@@ -11,7 +11,7 @@ use crate::record::Record;
 use crate::recording::{Recording, Ring};
 use crate::steps::Steps;
 use std::alloc::{AllocError, Global};
-use trace_format::{Blob, Gathered, GatheredBuilder, Series, Version};
+use trace_format::{Blob, EntryBuf, Gathered, Series, Version};
 use trace_records::{Beside, Descriptor, Entry, Filling, Start, Trace};
 
 /// Bytes, and zeros behind them, so many in all.
@@ -28,19 +28,19 @@ fn with_zeros(alloc: Global, front: &[u8], len: usize) -> Result<Blob, AllocErro
     Blob::from_vec(alloc, bytes)
 }
 
-/// Adds an entry with the bytes beside it, which are stored, or its lengths and zeros; or with what
-/// is given of it. Stored bytes are not copied.
-fn push_entry(alloc: Global, entries: &mut GatheredBuilder, entry: Entry) -> Result<(), AllocError>
-    ensures { OnOk result (entries.new ≡ entries.old ++ meant.submitted entry ∷ []) }
+/// An entry with the bytes beside it, which are stored, or its lengths and zeros; or with what is
+/// given of it. Stored bytes are not copied.
+fn submitted(alloc: Global, entry: Entry) -> Result<EntryBuf, AllocError>
+    ensures { IfOk result (λ e. e ≡ meant.submitted entry) }
 {
     let Entry { sqe, beside } = entry;
     match beside {
-        Beside::Stored { bytes } => entries.push(&sqe, bytes, None),
+        Beside::Stored { bytes } => Ok(EntryBuf::new(sqe, bytes, None)),
         Beside::Zeros { lengths, len } => {
             let bytes = with_zeros(alloc, lengths.as_slice(), len as usize)?;
-            entries.push(&sqe, bytes, None)
+            Ok(EntryBuf::new(sqe, bytes, None))
         }
-        Beside::Given { given } => entries.push(&sqe, Blob::empty(), Some(given)),
+        Beside::Given { given } => Ok(EntryBuf::new(sqe, Blob::empty(), Some(given))),
     }
 }
 
@@ -48,11 +48,11 @@ fn push_entry(alloc: Global, entries: &mut GatheredBuilder, entry: Entry) -> Res
 fn entries_of(alloc: Global, entries: Vec<Entry>) -> Result<Gathered, AllocError>
     ensures { IfOk result (λ e. e ≡ map meant.submitted entries.items) }
 {
-    let mut made = GatheredBuilder::with_room(alloc, entries.len())?;
+    let mut made = Vec::with_capacity(alloc, entries.len())?;
     for entry in entries {
-        push_entry(alloc, &mut made, entry)?;
+        made.push(submitted(alloc, entry)?)?;
     }
-    made.build(alloc)
+    Gathered::new(alloc, made)
 }
 
 /// The bytes that are put into a buffer.

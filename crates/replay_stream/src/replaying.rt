@@ -133,6 +133,14 @@ impl Replaying {
         })
     }
 
+    /// Lets go of the last record, whose memory the next one may be read into.
+    pub fn let_go(&mut self, alloc: Global)
+        ensures { (b : three_start.Start) (front : List three.Record)
+            → HasRun b front self.old → HasRun b front self.new }
+    {
+        self.recording.let_go(alloc);
+    }
+
     /// Lets go of the last record, and runs the places of the next one in recorded order. Then it
     /// may drop what nothing leads to, at a cost that is in proportion to what was made.
     ///

@@ -484,3 +484,19 @@ memory_out (Err e) may ahead a b w v shown form is some = subst (WritesUpTo may 
 pub told_out : {T : Type 0} (r : Result T ReportFault) (e : ReportFault) (P : ReportFault → Type 0) → IsErrAnd r (λ f. f ≡ e) → P e → IfErr r P
 told_out (Ok x) e P is p = absurd is
 told_out (Err f) e P is p = subst P (sym is) p
+
+-- what is under way stays so with a replay that has run the same
+pub let_on : (ahead : List ℕ) (a b w v : Option (List ℕ)) (s : Stream) (p q : Replaying) (text : List ℕ) (shown : Shown) (form : Form) → UnderWay ahead a b w v s p text shown form
+    → ((start : Start) (rs : List Record) → HasRun start rs p → HasRun start rs q) → UnderWay ahead a b w v s q text shown form
+let_on ahead a b w v s p q text shown form h keeps = record {
+  start = h.start;
+  rs = h.rs;
+  more = h.more;
+  taken = h.taken;
+  stands = h.stands;
+  run = keeps h.start h.rs h.run;
+  out = h.out;
+  wrote = h.wrote;
+  whole = h.whole;
+  so_far = h.so_far;
+}

@@ -5,19 +5,19 @@ use Rattle.std.specs.Fmt.{decimal}
 use Rattle.std.specs.List.{AllByRecursion, flat_map}
 use Rattle.std.proofs.lemmas.List.Elements.{All-from_recursion}
 use Rattle.sqe_codec.specs.Answers.{each}
-use Rattle.finite_maps.specs.Table.{Table, get, pair_cmp}
+use Rattle.finite_maps.specs.Table.{get}
 use Rattle.file_tree.specs.Tree.{bytes_of_node}
 use Rattle.std.specs.Option.{option_and_then}
 use Rattle.recording.specs.declared.recording.Ring.{Ring}
 use Rattle.world_parts.specs.Image.{image_of}
-use Rattle.world_parts.specs.World.{World, IsWorld, buffer, bytes}
+use Rattle.world_parts.specs.World.{World, IsWorld}
 use Rattle.world_parts.proofs.Members.{In}
 use Rattle.world_parts.specs.declared.image.BufferEntry.{BufferEntry}
 use Rattle.world_parts.specs.declared.image.Image.{Image}
 use Rattle.world_parts.specs.declared.image.NameEntry.{NameEntry}
 use Rattle.sweep_laws.specs.Within.{IsWithin}
 use Rattle.sweep_laws.proofs.Images.{flat_map_same, image_same, names_alike}
-use Rattle.replay_report.specs.Report.{buffer_shown, buffer_sum, descriptor_line, description_text, file_sum, has_ended, line, name_line, named_line, slot_shown, world_lines}
+use Rattle.replay_report.specs.Report.{buffer_shown, buffer_sum, descriptor_line, file_sum, has_ended, line, name_line, named_line, slot_shown, world_lines}
 use Rattle.replay_report.specs.declared.showing.SumsShown.{SumsShown}
 
 -- what holds of each member holds of all

@@ -3,46 +3,16 @@ ghost use Rattle.std.specs.Prelude.{◌≡◌, ◌+◌, ◌-◌, ◌<◌, ◌^�
 ghost use Rattle.std.specs.Io.KnownBytes.{Appends};
 ghost use Rattle.byte_transfer.specs.Transfer.{Takes};
 ghost use Rattle.json_lines.specs.Forms.{written_as};
-ghost use Rattle.json_lines.specs.Lines.{json_lines};
 ghost use Rattle.trace_stream.specs.Streams.{Gives};
 ghost use Rattle.report_stream.specs.Steps.{IsNotWritten, Moves, StopsWith};
 ghost use Rattle.report_stream.specs.Steps.{reads_failed, writes_failed};
 
 use crate::fault::{ReportFault, told_of};
-use byte_transfer::{Failed, Sink, Source, write_text};
-use json_lines::{Form, json_of};
+use byte_transfer::{Sink, Source};
+use json_lines::{Form, WriteFault, write_as};
 use std::alloc::Global;
 use trace_records::Record;
 use trace_stream::Stream;
-
-/// Writes bytes.
-fn write_out<W: Sink>(writer: &mut W, bytes: &[u8]) -> Result<(), ReportFault>
-    requires { W.failures writer.old < 2 ^ 64 - 1 }
-    ensures ok { OnOk result (Appends (W.written writer.old) (W.written writer.new) bytes.now) }
-    ensures err { IfErr result
-        (IsNotWritten (W.written writer.old) (W.written writer.new) bytes.now) }
-    ensures reads { reads_failed result ≡ 0 }
-    ensures writes { W.failures writer.new ≡ W.failures writer.old + writes_failed result }
-{
-    match write_text(writer, bytes) {
-        Ok(()) => Ok(()),
-        Err(Failed) => Err(ReportFault::Write),
-    }
-}
-
-/// Writes the objects of the lines of a text.
-fn write_json<W: Sink>(alloc: Global, writer: &mut W, text: &[u8]) -> Result<(), ReportFault>
-    requires { W.failures writer.old < 2 ^ 64 - 1 }
-    ensures ok { OnOk result
-        (Appends (W.written writer.old) (W.written writer.new) (json_lines text.now)) }
-    ensures err { IfErr result
-        (IsNotWritten (W.written writer.old) (W.written writer.new) (json_lines text.now)) }
-    ensures reads { reads_failed result ≡ 0 }
-    ensures writes { W.failures writer.new ≡ W.failures writer.old + writes_failed result }
-{
-    let json = json_of(alloc, text)?;
-    write_out(writer, json.as_slice())
-}
 
 /// Writes the text in the form that is asked for, and leaves none.
 pub(crate) fn flush<W: Sink>(
@@ -60,12 +30,14 @@ pub(crate) fn flush<W: Sink>(
     ensures reads { reads_failed result ≡ 0 }
     ensures writes { W.failures writer.new ≡ W.failures writer.old + writes_failed result }
 {
-    match form {
-        Form::Text => write_out(writer, text.as_slice())?,
-        Form::Json => write_json(alloc, writer, text.as_slice())?,
+    match write_as(alloc, text.as_slice(), writer, form) {
+        Ok(()) => {
+            text.clear();
+            Ok(())
+        }
+        Err(WriteFault::Memory) => Err(ReportFault::Memory),
+        Err(WriteFault::Write) => Err(ReportFault::Write),
     }
-    text.clear();
-    Ok(())
 }
 
 /// The next record. The text is written before more is read, so that no line waits for bytes.

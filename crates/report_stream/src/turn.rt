@@ -147,7 +147,8 @@ pub(crate) fn take_turn<R: Source, W: Sink>(
     let Some(next) = found else {
         return Ok(Turn::Last(replaying));
     };
-    let replaying = run_next(alloc, replaying, next)?;
+    let mut replaying = run_next(alloc, replaying, next)?;
     tell(alloc, writer, &mut pending.text, &replaying, asked)?;
+    replaying.let_go(alloc);
     Ok(Turn::Next(replaying))
 }

@@ -12,7 +12,6 @@ pub mod KnownSpans
 pub mod Apart
 pub mod Lasting
 pub mod Spotted
-pub mod Nears
 pub mod Slices
 mod Exits
 pub mod Facts

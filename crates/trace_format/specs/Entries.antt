@@ -1,9 +1,10 @@
--- A view of code: where a text has entries, and entries beside whose fields bytes of other texts stand.
-use Rattle.std.specs.Prelude.{ℕ, ◌+◌, ◌≤◌, List, length, take, drop, None}
+-- A view of code: where a text has entries, and entries that stand elsewhere.
+use Rattle.std.specs.Prelude.{ℕ, ◌+◌, ◌≤◌, ⊤, List, length, take, drop, None}
 use Rattle.sqe_codec.specs.Fields.{entry_of}
 use Rattle.trace_format.specs.Submitted.{Submitted}
 use Rattle.trace_format.specs.declared.entries.Spot.{Spot}
-use Rattle.trace_format.specs.declared.gathered.Near.{Near}
+use Rattle.trace_format.specs.declared.entry.Stand.{Stand}
+use Rattle.trace_format.specs.declared.entry.Stand.TheVariants.{Within, Apart}
 
 -- the entry at a spot of a text: its 64 bytes, four more, and the bytes beside it
 abbrev pub entry_at : List ℕ → Spot → Submitted
@@ -13,10 +14,12 @@ entry_at text s = record { sqe = entry_of (take 64 (drop s.at text)); side = tak
 abbrev pub IsInside : List ℕ → Spot → Type 0
 IsInside text s = s.at + 68 + s.len ≤ length text
 
--- the entry whose fields stand in a text, and what is beside them elsewhere
-abbrev pub near_at : List ℕ → Near → Submitted
-near_at fields n = record { sqe = entry_of (take 64 (drop n.at fields)); side = n.side; given = n.given }
+-- the entry that a text has, by where it stands
+abbrev pub stands_at : List ℕ → Stand → Submitted
+stands_at text (Within spot) = entry_at text spot
+stands_at text (Apart entry) = entry.now
 
--- its fields are inside
-abbrev pub HasFields : List ℕ → Near → Type 0
-HasFields fields n = n.at + 64 ≤ length fields
+-- it is inside
+abbrev pub IsThere : List ℕ → Stand → Type 0
+IsThere text (Within spot) = IsInside text spot
+IsThere text (Apart entry) = ⊤

@@ -24,7 +24,7 @@ impl<'a> TextSlice<'a> {
 
     /// So many bytes of a text, from a place on.
     #[inline(always)]
-    pub(crate) fn of(text: &'a Text, from: usize, len: usize) -> Self
+    pub fn of(text: &'a Text, from: usize, len: usize) -> Self
         requires { from + len ≤ length text.now.value.items }
         ensures { sliced result ≡ take len (drop from text.entry.now.value.items) }
     {
@@ -66,6 +66,17 @@ impl<'a> TextSlice<'a> {
         ensures { sliced result ≡ drop count (sliced self.entry) }
     {
         TextSlice::of(self.text, self.from + count, self.len - count)
+    }
+
+    /// A blob of them, none of which is copied. Of none it takes no memory.
+    ///
+    /// # Errors
+    ///
+    /// `AllocError` where the text has too many owners.
+    pub fn shared(self) -> Result<Blob, AllocError>
+        ensures { IfOk result (λ blob. blob ≡ sliced self.entry) }
+    {
+        Blob::part(self.text, self.from as u64, self.len)
     }
 
     /// The first so many.

@@ -3,11 +3,12 @@ ghost use Rattle.std.specs.Prelude.{◌≡◌, ◌<◌, [], ◌∷◌, ◌++◌,
 ghost use Rattle.std.specs.Int.{w32, to_le_bytes};
 ghost use Rattle.std.specs.List.{slice_get};
 ghost use Rattle.std.specs.Prelude.{OnOk, OnErr};
+ghost use Rattle.trace_format.specs.Blobs.{sliced};
 ghost use Rattle.trace_format.specs.Entries.{IsInside, entry_at};
 
 use crate::blob::{Text, TextSlice};
 use crate::entry::Entry;
-use sqe_codec::{Sqe, pack};
+use sqe_codec::{Sqe, pack, unpack};
 use std::alloc::{AllocError, Global};
 use std::marker::Model;
 use std::mem;
@@ -25,14 +26,25 @@ pub(crate) struct Spot {
 }
 
 impl Spot {
-    /// The entry that a text has here.
+    /// The fields of the entry that a text has here.
     #[inline(always)]
-    fn entry(self, text: &Text) -> Entry<'_>
+    pub(crate) fn sqe(self, text: &Text) -> Sqe
         requires { IsInside text.now.value.items self }
-        ensures { result ≡ entry_at text.entry.now.value.items self }
+        ensures { result ≡ (entry_at text.entry.now.value.items self).sqe }
     {
-        let side = TextSlice::of(text, self.at as usize + HEAD, self.len as usize);
-        Entry::of(text, self.at, side, None)
+        let from = self.at as usize;
+        let mut bytes = [0; 64];
+        bytes.copy_from_slice(&text[from..from + 64]);
+        unpack(&bytes)
+    }
+
+    /// The bytes beside the entry that a text has here.
+    #[inline(always)]
+    pub(crate) fn side(self, text: &Text) -> TextSlice<'_>
+        requires { IsInside text.now.value.items self }
+        ensures { sliced result ≡ (entry_at text.entry.now.value.items self).side }
+    {
+        TextSlice::of(text, self.at as usize + HEAD, self.len as usize)
     }
 }
 
@@ -82,7 +94,7 @@ impl Entries {
         requires { number < length self.now }
         ensures { slice_get self.now number ≡ Some result }
     {
-        self.spots[number].entry(&self.text)
+        Entry::within(&self.text, self.spots[number])
     }
 }
 

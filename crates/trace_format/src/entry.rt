@@ -1,72 +1,76 @@
 //! Entries, as they lie in texts.
-ghost use Rattle.std.specs.Prelude.{◌≡◌, ◌+◌, ◌≤◌, length, take, drop};
-ghost use Rattle.sqe_codec.specs.Fields.{entry_of};
+ghost use Rattle.std.specs.Prelude.{◌≡◌};
 ghost use Rattle.trace_format.specs.Blobs.{sliced};
+ghost use Rattle.trace_format.specs.Entries.{IsInside, entry_at};
 
 use crate::blob::{Text, TextSlice};
+use crate::entries::Spot;
+use crate::gathered::EntryBuf;
 use crate::given::Given;
-use sqe_codec::{Sqe, unpack};
+use sqe_codec::Sqe;
 use std::marker::Model;
+
+/// Where a text has an entry.
+#[derive(Clone, Copy)]
+pub(crate) enum Stand<'a> {
+    /// Its fields, and the bytes beside it behind them.
+    Within(Spot),
+    /// Nothing of it: it stands elsewhere.
+    Apart(&'a EntryBuf),
+}
 
 /// A submitted entry, and the bytes in memory that it speaks of, as they lie in texts: neither
 /// its fields nor the bytes are copied.
 #[derive(Drop)]
 pub struct Entry<'a> {
-    /// Where its 64 bytes lie.
     text: &'a Text,
-    /// Where in that text they begin.
-    at: u32,
-    side: TextSlice<'a>,
-    given: Option<Given>,
+    stand: Stand<'a>,
 }
 
 impl<'a> Model for Entry<'a> {
-    ghost use Rattle.std.specs.Prelude.{◌+◌, ◌≤◌, length, take, drop};
-    ghost use Rattle.sqe_codec.specs.Fields.{entry_of};
     ghost use Rattle.trace_format.specs.Submitted.{Submitted};
 
     ghost Value = { Submitted };
 
-    ghost use Rattle.trace_format.specs.Blobs.{sliced};
+    ghost use Rattle.trace_format.specs.Entries.{IsThere, stands_at};
 
-    ghost view = { λ e. record {
-      sqe = entry_of (take 64 (drop e.at e.text.now.value.items));
-      side = sliced e.side;
-      given = e.given;
-    } };
+    ghost view = { λ e. stands_at e.text.now.value.items e.stand };
 
-    ghost invariant = { λ e. e.at + 64 ≤ length e.text.now.value.items };
+    ghost invariant = { λ e. IsThere e.text.now.value.items e.stand };
 }
 
 impl<'a> Entry<'a> {
-    /// The entry whose fields are in a text from a place on, with these bytes beside it and what is
-    /// given of it.
+    /// The entry that a text has at a spot.
     #[inline(always)]
-    pub(crate) fn of(text: &'a Text, at: u32, side: TextSlice<'a>, given: Option<Given>) -> Self
-        requires { at + 64 ≤ length text.now.value.items }
-        ensures { result ≡ record {
-          sqe = entry_of (take 64 (drop at text.entry.now.value.items));
-          side = sliced side.entry;
-          given = given;
-        } }
+    pub(crate) fn within(text: &'a Text, spot: Spot) -> Self
+        requires { IsInside text.now.value.items spot }
+        ensures { result ≡ entry_at text.entry.now.value.items spot }
     {
         Entry {
             text,
-            at,
-            side,
-            given,
+            stand: Stand::Within(spot),
+        }
+    }
+
+    /// An entry that stands in no text.
+    #[inline(always)]
+    pub(crate) fn apart(nowhere: &'a Text, entry: &'a EntryBuf) -> Self
+        ensures { result ≡ entry.entry.now }
+    {
+        Entry {
+            text: nowhere,
+            stand: Stand::Apart(entry),
         }
     }
 
     /// The same entry. It takes no memory.
+    #[inline(always)]
     pub fn again(&self) -> Self
         ensures { result ≡ self.now }
     {
         Entry {
             text: self.text,
-            at: self.at,
-            side: self.side,
-            given: self.given,
+            stand: self.stand,
         }
     }
 
@@ -74,10 +78,10 @@ impl<'a> Entry<'a> {
     pub fn sqe(&self) -> Sqe
         ensures { result ≡ self.now.sqe }
     {
-        let from = self.at as usize;
-        let mut bytes = [0; 64];
-        bytes.copy_from_slice(&self.text[from..from + 64]);
-        unpack(&bytes)
+        match self.stand {
+            Stand::Within(spot) => spot.sqe(self.text),
+            Stand::Apart(entry) => entry.sqe,
+        }
     }
 
     /// The lengths of its vector, the bytes that it writes, or its paths: see [`crate::fits`].
@@ -85,7 +89,7 @@ impl<'a> Entry<'a> {
     pub fn side(&self) -> &'a [u8]
         ensures { result.now ≡ self.now.side }
     {
-        self.side.as_slice()
+        self.side_slice().as_slice()
     }
 
     /// The same bytes, with the text that they lie in.
@@ -93,7 +97,10 @@ impl<'a> Entry<'a> {
     pub fn side_slice(&self) -> TextSlice<'a>
         ensures { sliced result ≡ self.now.side }
     {
-        self.side
+        match self.stand {
+            Stand::Within(spot) => spot.side(self.text),
+            Stand::Apart(entry) => entry.side(self.text),
+        }
     }
 
     /// What the trace gives of it in place of having it decided. Traces of versions 1 and 2 give
@@ -102,6 +109,9 @@ impl<'a> Entry<'a> {
     pub fn given(&self) -> Option<Given>
         ensures { result ≡ self.now.given }
     {
-        self.given
+        match self.stand {
+            Stand::Within(_) => None,
+            Stand::Apart(entry) => entry.given,
+        }
     }
 }

@@ -40,7 +40,7 @@ pub use blob::{Blob, Text, TextSlice};
 pub use entries::{Entries, EntriesBuilder};
 pub use entry::Entry;
 pub use fault::{Kind, TraceFault};
-pub use gathered::{Gathered, GatheredBuilder};
+pub use gathered::{EntryBuf, Gathered};
 pub use given::Given;
 pub use list::Series;
 pub use reading::read_trace;

@@ -1,6 +1,7 @@
 //! Reading a trace.
 ghost use Rattle.std.specs.Prelude.{◌≡◌, ◌+◌, ◌<◌, ◌≤◌, ◌^◌, ◌⊎◌};
-ghost use Rattle.std.specs.Prelude.{IfOk, IfErr, IfSome, List, drop, length, take};
+ghost use Rattle.std.specs.Prelude.{IfOk, IfErr, IfSome, List, length, take};
+ghost use Rattle.trace_format.specs.Blobs.{sliced};
 ghost use Rattle.trace_format.specs.Grammar.{Breaks, Spells, fault};
 ghost use Rattle.trace_format.specs.declared.fault.Kind.TheVariants.{Memory};
 ghost use Rattle.trace_records.specs.Front.{no_records, places_of, places_limit};
@@ -23,7 +24,7 @@ use crate::source::Source;
 use crate::start::Start;
 use crate::trace::Trace;
 use std::alloc::Global;
-use trace_format::{Kind, Series, Text, TraceFault};
+use trace_format::{Kind, Series, TextSlice, TraceFault};
 
 #[tactic(auto, unfolding(crate::specs::Start::start))]
 pub(crate) fn start_of(alloc: Global, source: Source<'_>) -> Result<(Start, Source<'_>), ReadError>
@@ -95,9 +96,9 @@ fn record_from(
     }
 }
 
-/// The record that the bytes of a buffer from an index on begin with, none where the trace ends, and
-/// how many bytes it has. The bytes stand at a place of a trace, behind its start and the records
-/// that `front` stands for. What is read shares the buffer: no byte is copied.
+/// The record that bytes of a buffer begin with, none where the trace ends, and how many bytes it
+/// has. The bytes stand at a place of a trace, behind its start and the records that `front` stands
+/// for. What is read shares the buffer: no byte is copied.
 ///
 /// # Errors
 ///
@@ -107,29 +108,23 @@ pub fn read_record(
     alloc: Global,
     start: &Start,
     front: &Front,
-    buffer: &Text,
-    from: usize,
+    bytes: TextSlice<'_>,
     place: u64,
 ) -> Result<(Option<Record>, usize), TraceFault>
-    requires inside { from ≤ length buffer.now.value.items }
-    requires fits { place + length (drop from buffer.now.value.items) < 2 ^ 63 }
+    requires { place + length (sliced bytes) < 2 ^ 63 }
     // What is read is spelled so by the bytes that were taken, at least one.
-    ensures taken { IfOk result
-        (λ x. (0 < x.1) × (x.1 ≤ length (drop from buffer.now.value.items))
-        × Spells (next start.now front.now) place
-        (take x.1 (drop from buffer.now.value.items)) x.0) }
+    ensures taken { IfOk result (λ x. (0 < x.1) × (x.1 ≤ length (sliced bytes.entry))
+        × Spells (next start.now front.now) place (take x.1 (sliced bytes.entry)) x.0) }
     // It may be added to the front.
     ensures within { IfOk result
         (λ x. IfSome x.0 (λ r. front.now.places + places_of r ≤ places_limit)) }
     // A fault is one of the bytes, unless memory ran out.
     ensures fault { IfErr result (λ f. (f ≡ fault Memory 0)
-        ⊎ Breaks (next start.now front.now) place (drop from buffer.now.value.items) f) }
+        ⊎ Breaks (next start.now front.now) place (sliced bytes.entry) f) }
 {
-    let (_, rest) = buffer.split_at(from);
-    let shared = Some(buffer);
     let source = Source {
-        shared,
-        rest,
+        shared: Some(bytes),
+        rest: bytes.as_slice(),
         place,
     };
     record_from(alloc, start, front, source)

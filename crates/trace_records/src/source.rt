@@ -2,6 +2,7 @@
 ghost use Rattle.std.specs.Prelude.{◌≡◌, ◌+◌, ◌<◌, ◌≤◌, ◌^◌, IfOk, length};
 ghost use Rattle.std.specs.Int.{w8, w16, w32, w64};
 ghost use Rattle.std.specs.Option.{ForSome};
+ghost use Rattle.trace_format.specs.Blobs.{sliced};
 ghost use Rattle.trace_format.specs.Grammar.{Bytes, number, number_to};
 ghost use Rattle.trace_records.specs.Fields.{number_in, number_of};
 ghost use Rattle.trace_records.specs.Read.{Gives};
@@ -10,17 +11,18 @@ ghost use Rattle.trace_format.specs.Read.{reading};
 
 use crate::fault::{ReadError, refused};
 use std::alloc::{AllocError, Global};
-use trace_format::{Blob, Kind, Text};
+use trace_format::{Blob, Kind, TextSlice};
 
 /// The bytes that haven't been read, and the place of the first of them in the text.
 #[derive(Clone, Copy)]
 pub(crate) struct Source<'a> {
-    /// The memory that they are the end of, where what is read may share it. Else it is copied.
-    pub shared: Option<&'a Text>,
+    /// The part of a buffer that they are the end of, where what is read may share it. Else it is
+    /// copied.
+    pub shared: Option<TextSlice<'a>>,
     pub rest: &'a [u8],
     pub place: u64,
     ghost fits: { place + length rest.now < 2 ^ 63 },
-    ghost end: { ForSome shared (λ text. IsEndOf text.now.value.items rest.now) },
+    ghost end: { ForSome shared (λ part. IsEndOf (sliced part) rest.now) },
 }
 
 pub(crate) fn bytes_of(source: Source<'_>, count: usize) -> Result<(&[u8], Source<'_>), ReadError>
@@ -66,7 +68,10 @@ pub(crate) fn blob_of(
     let (bytes, after) = bytes_of(source, count)?;
     let made = match source.shared {
         None => copied(alloc, bytes)?,
-        Some(text) => Blob::part(text, (text.len() - source.rest.len()) as u64, count)?,
+        Some(part) => part
+            .behind(part.len() - source.rest.len())
+            .first(count)
+            .shared()?,
     };
     Ok((made, after))
 }

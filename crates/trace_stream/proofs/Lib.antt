@@ -2,3 +2,4 @@ pub mod Grows
 pub mod Goes
 pub mod Going
 pub mod Tallied
+pub mod Ranges

@@ -1,7 +1,10 @@
 //! Bytes that were taken from a reader and not used yet.
-ghost use Rattle.std.specs.Prelude.{◌≡◌, ◌+◌, ◌-◌, ◌<◌, ◌≤◌, ◌^◌, ◌++◌, drop, length};
-ghost use Rattle.std.specs.Prelude.{IfOk, IfErr, OnOk, OnErr};
+ghost use Rattle.std.specs.Prelude.{◌≡◌, ◌+◌, ◌-◌, ◌<◌, ◌≤◌, ◌^◌, drop, length, take};
+ghost use Rattle.std.specs.Prelude.{IfOk, IfErr, OnOk};
+ghost use Rattle.std.specs.Io.{StartsWith};
+ghost use Rattle.std.specs.Io.KnownBytes.{Consumes, IsAtEnd};
 ghost use Rattle.byte_transfer.specs.Transfer.{Takes};
+ghost use Rattle.trace_format.specs.Blobs.{sliced};
 ghost use Rattle.trace_stream.specs.Held.{Gains, IsOutside, failed};
 
 use crate::fault::{StreamFault, no_memory};
@@ -11,7 +14,7 @@ use std::alloc::{AllocError, Global};
 use std::marker::Model;
 use std::mem;
 use std::sync::Arc;
-use trace_format::Text;
+use trace_format::{Text, TextSlice};
 
 /// The most bytes that one call reads.
 const PIECE: usize = 65_536;
@@ -35,16 +38,6 @@ enum Part {
     Record,
 }
 
-/// Lets go of the first bytes of a buffer. Its room stays.
-fn drop_front(bytes: &mut Vec<u8>, count: usize)
-    requires { count ≤ length bytes.old.items }
-    ensures { bytes.new.items ≡ drop count bytes.old.items }
-{
-    let left = bytes.len() - count;
-    bytes.copy_within(count.., 0);
-    bytes.truncate(left);
-}
-
 /// A buffer with a copy of these bytes.
 fn buffer_of(alloc: Global, bytes: &[u8]) -> Result<Text, AllocError>
     ensures { IfOk result (λ buffer. buffer.value.items ≡ bytes.now) }
@@ -54,60 +47,101 @@ fn buffer_of(alloc: Global, bytes: &[u8]) -> Result<Text, AllocError>
     Ok(Arc::new(alloc, copy)?)
 }
 
-/// Makes a buffer one of these bytes. It is written over, or made anew where it is shared.
-fn refill(alloc: Global, buffer: &mut Text, bytes: &[u8]) -> Result<(), AllocError>
-    ensures { OnOk result (buffer.new.value.items ≡ bytes.now) }
+/// Puts bytes over the first ones of a slice.
+#[tactic(auto, using(crate::proofs::Ranges::starts_over))]
+fn put_first(own: &mut [u8], bytes: &[u8])
+    requires { length bytes.now ≤ length own.old }
+    ensures starts { StartsWith own.new bytes.now }
+    ensures long { length own.new ≡ length own.old }
 {
-    if let Some(own) = Arc::get_mut(buffer) {
-        own.clear();
-        return own.extend_from_slice(bytes);
+    own[..bytes.len()].copy_from_slice(bytes);
+}
+
+/// Lets a buffer begin with these bytes. It is written over, or made anew where it is shared or too
+/// small.
+fn begin_with(alloc: Global, buffer: &mut Text, bytes: &[u8]) -> Result<(), AllocError>
+    ensures { OnOk result (StartsWith buffer.new.value.items bytes.now) }
+{
+    let Some(own) = Arc::get_mut(buffer) else {
+        *buffer = buffer_of(alloc, bytes)?;
+        return Ok(());
+    };
+    if own.len() < bytes.len() {
+        own.resize(bytes.len(), 0)?;
     }
-    *buffer = buffer_of(alloc, bytes)?;
+    put_first(own, bytes);
     Ok(())
 }
 
-/// Puts bytes behind those of a buffer, or of a copy of it where it is shared.
-fn append(buffer: &mut Text, bytes: &[u8]) -> Result<(), AllocError>
-    ensures ok { OnOk result (buffer.new.value.items ≡ buffer.old.value.items ++ bytes.now) }
-    ensures err { OnErr result (buffer.new.value.items ≡ buffer.old.value.items) }
+/// Reads a piece into a buffer, behind its first bytes, and tells how many came.
+fn read_behind<R: Source>(
+    reader: &mut R,
+    buffer: &mut Text,
+    end: usize,
+) -> Result<usize, StreamFault>
+    requires failures { R.failures reader.old < 2 ^ 64 - 1 }
+    requires within { end ≤ length buffer.old.value.items }
+    ensures kept { take end buffer.new.value.items ≡ take end buffer.old.value.items }
+    ensures inside { end ≤ length buffer.new.value.items }
+    ensures ok { IfOk result (λ count. (count ≤ 65536)
+        × (end + count ≤ length buffer.new.value.items)
+        × Consumes (R.left reader.old) (R.left reader.new)
+        (take count (drop end buffer.new.value.items))
+        × (count ≡ 0 → IsAtEnd (R.left reader.new))) }
+    ensures err { IfErr result IsOutside }
+    ensures taken { Takes (R.left reader.old) (R.left reader.new) }
+    ensures failures { R.failures reader.new ≡ R.failures reader.old + failed result }
 {
-    Arc::make_mut(buffer)?.extend_from_slice(bytes)
+    let Ok(own) = Arc::make_mut(buffer) else {
+        return Err(no_memory());
+    };
+    let room = end.saturating_add(PIECE);
+    if own.len() < room && own.resize(room, 0).is_err() {
+        return Err(no_memory());
+    }
+    match reader.read_some(&mut own[end..room]) {
+        Ok(count) => Ok(count),
+        Err(Failed) => Err(StreamFault::Read),
+    }
 }
 
 /// The bytes of a text that were taken and not used yet, and where in the text they stand.
 ///
-/// They lie in a buffer, which the records that are read from it share. Two buffers take turns:
-/// while a record keeps one of them, what comes next is read into the other. So no memory is given
-/// back and asked for again, where a record is let go before the one after the next is read.
+/// They lie in a buffer, which the records that are read from it share. Two buffers take turns: while
+/// a record keeps one of them, what comes next is read into the other. So no memory is given back
+/// and asked for again, where a record is let go before the one after the next is read.
 #[derive(Drop)]
 pub(crate) struct Held {
-    bytes: Text,
+    buffer: Text,
     // The buffer that takes the next turn.
     spare: Text,
     // Whether the buffer had the start of the text.
     had_start: bool,
+    // Where in the buffer the bytes begin, and where they end. What is behind them is room.
     used: usize,
+    end: usize,
     place: u64,
     part: Part,
     // How many bytes the part has at least.
     least: usize,
     // How many bytes may be read again of one that may not be whole.
     credit: u64,
-    // What one call reads into: so many bytes as it may read, or none yet.
-    piece: Vec<u8>,
 }
 
 impl Model for Held {
-    ghost use Rattle.std.specs.Prelude.{◌≤◌, ◌<◌, ◌+◌, ◌^◌, drop, length, vec_len};
+    ghost use Rattle.std.specs.Prelude.{◌≤◌, ◌<◌, ◌+◌, ◌-◌, ◌^◌, drop, length, take};
     ghost use Rattle.trace_stream.specs.Held as meant;
 
     ghost Value = { meant.Held };
 
-    ghost view = { λ h. record { rest = drop h.used h.bytes.value.items; place = h.place } };
+    ghost view = { λ h. record {
+      rest = take (h.end - h.used) (drop h.used h.buffer.value.items);
+      place = h.place;
+    } };
 
-    ghost invariant = { λ h. (h.used ≤ length h.bytes.value.items)
-        × (h.place + length h.bytes.value.items < h.used + 2 ^ 63)
-        × (vec_len h.piece ≤ 65536) };
+    ghost invariant = { λ h. (h.used ≤ h.end)
+        × (h.end ≤ length h.buffer.value.items)
+        × (h.place + h.end < h.used + 2 ^ 63) };
 }
 
 impl Held {
@@ -115,16 +149,17 @@ impl Held {
     pub(crate) fn new(alloc: Global, bytes: Vec<u8>) -> Result<Self, AllocError>
         ensures { IfOk result (λ held. held ≡ record { rest = bytes.items; place = 0 }) }
     {
+        let end = bytes.len();
         Ok(Held {
-            bytes: Arc::new(alloc, bytes)?,
+            buffer: Arc::new(alloc, bytes)?,
             spare: Arc::new(alloc, Vec::new(alloc))?,
             had_start: true,
             used: 0,
+            end,
             place: 0,
             part: Part::Start(StartWalk::new()),
             least: 0,
             credit: PIECE as u64,
-            piece: Vec::new(alloc),
         })
     }
 
@@ -132,16 +167,15 @@ impl Held {
         ensures rest { result.now ≡ self.now.rest }
         ensures bound { self.now.place + length self.now.rest < 2 ^ 63 }
     {
-        &self.bytes[self.used..]
+        &self.buffer[self.used..self.end]
     }
 
-    /// The buffer that the bytes lie in, and where they begin there.
-    pub(crate) fn buffer(&self) -> (&Text, usize)
-        ensures rest { drop result.1 result.0.now.value.items ≡ self.now.rest }
-        ensures inside { result.1 ≤ length result.0.now.value.items }
+    /// The same bytes, with the buffer that they lie in.
+    pub(crate) fn slice(&self) -> TextSlice<'_>
+        ensures rest { sliced result ≡ self.entry.now.rest }
         ensures bound { self.now.place + length self.now.rest < 2 ^ 63 }
     {
-        (&self.bytes, self.used)
+        TextSlice::of(&self.buffer, self.used, self.end - self.used)
     }
 
     pub(crate) fn place(&self) -> u64
@@ -166,28 +200,29 @@ impl Held {
     /// Lets go of the bytes that were used. Where a record shares the buffer, those that are left
     /// go into the spare one, which takes its turn. A large buffer that had the start is given
     /// back.
-    fn let_go(&mut self, alloc: Global) -> Result<(), AllocError>
+    pub(crate) fn let_go(&mut self, alloc: Global) -> Result<(), AllocError>
         ensures same { OnOk result (self.new ≡ self.old) }
         ensures bound { self.new.place + length self.new.rest < 2 ^ 63 }
     {
         if self.used == 0 {
             return Ok(());
         }
-        if self.had_start && self.bytes.capacity() > KEPT {
-            self.bytes = buffer_of(alloc, &self.bytes[self.used..])?;
-        } else if let Some(bytes) = Arc::get_mut(&mut self.bytes) {
-            drop_front(bytes, self.used);
+        if self.had_start && self.buffer.capacity() > KEPT {
+            self.buffer = buffer_of(alloc, &self.buffer[self.used..self.end])?;
+        } else if let Some(own) = Arc::get_mut(&mut self.buffer) {
+            own.copy_within(self.used..self.end, 0);
         } else {
-            refill(alloc, &mut self.spare, &self.bytes[self.used..])?;
-            mem::swap(&mut self.bytes, &mut self.spare);
+            begin_with(alloc, &mut self.spare, &self.buffer[self.used..self.end])?;
+            mem::swap(&mut self.buffer, &mut self.spare);
         }
         self.had_start = false;
+        self.end -= self.used;
         self.used = 0;
         Ok(())
     }
 
     /// Takes one piece more, and tells whether the reader had one.
-    fn take_piece<R: Source>(&mut self, alloc: Global, reader: &mut R) -> Result<bool, StreamFault>
+    fn take_piece<R: Source>(&mut self, reader: &mut R) -> Result<bool, StreamFault>
         requires { R.failures reader.old < 2 ^ 64 - 1 }
         ensures ok { IfOk result
             (λ some. Gains some self.old self.new (R.left reader.old) (R.left reader.new)) }
@@ -196,23 +231,13 @@ impl Held {
         ensures failures { R.failures reader.new ≡ R.failures reader.old + failed result }
         ensures bound { self.new.place + length self.new.rest < 2 ^ 63 }
     {
-        if self.place > MOST || (self.bytes.len() - self.used) as u64 > MOST - self.place {
+        if self.place > MOST || (self.end - self.used) as u64 > MOST - self.place {
             return Err(no_memory());
         }
-        if self.piece.is_empty() && self.piece.resize(PIECE, 0).is_err() {
-            return Err(no_memory());
-        }
-        match reader.read_some(&mut self.piece) {
-            Ok(0) => Ok(false),
-            Ok(count) => match append(&mut self.bytes, &self.piece[..count]) {
-                Ok(()) => {
-                    self.credit = self.credit.saturating_add(AGAIN * count as u64);
-                    Ok(true)
-                }
-                Err(AllocError) => Err(no_memory()),
-            },
-            Err(Failed) => Err(StreamFault::Read),
-        }
+        let count = read_behind(reader, &mut self.buffer, self.end)?;
+        self.end += count;
+        self.credit = self.credit.saturating_add(AGAIN * count as u64);
+        Ok(count != 0)
     }
 
     /// Whether the part may be whole, by the lengths in it that are there.
@@ -220,7 +245,7 @@ impl Held {
         ensures same { self.new ≡ self.old }
         ensures bound { self.new.place + length self.new.rest < 2 ^ 63 }
     {
-        let rest = &self.bytes[self.used..];
+        let rest = &self.buffer[self.used..self.end];
         if rest.len() < self.least {
             return false;
         }
@@ -240,7 +265,7 @@ impl Held {
         if self.may_be_whole() {
             return true;
         }
-        let cost = (self.bytes.len() - self.used) as u64;
+        let cost = (self.end - self.used) as u64;
         if self.credit < cost {
             return false;
         }
@@ -269,7 +294,7 @@ impl Held {
         }
         let mut some = false;
         loop {
-            if !self.take_piece(alloc, reader)? {
+            if !self.take_piece(reader)? {
                 return Ok(some);
             }
             some = true;

@@ -107,8 +107,7 @@ fn try_record<R: Source>(
     ensures failures { R.failures reader.new ≡ R.failures reader.old + failed result }
     ensures bound { IfOk result (λ _. held.new.place + length held.new.rest < 2 ^ 63) }
 {
-    let (buffer, from) = held.buffer();
-    match read_record(alloc, start, front, buffer, from, held.place()) {
+    match read_record(alloc, start, front, held.slice(), held.place()) {
         Ok((record, count)) => {
             held.skip(count);
             Ok(Some(record))

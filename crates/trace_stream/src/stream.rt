@@ -104,6 +104,8 @@ impl Stream {
     {
         let mut held = Held::new(alloc, ahead)?;
         let start = start_on(alloc, &mut held, reader)?;
+        // The records are read into other buffers, so that none of them keeps this one.
+        held.let_go(alloc)?;
         let core = core_of(alloc, &start)?;
         let stream = Stream {
             held,
@@ -180,9 +182,8 @@ impl Stream {
             × (self.new.held.place < 2 ^ 63))) }
         ensures failures { failed result ≡ 0 }
     {
-        let (buffer, from) = self.held.buffer();
         let place = self.held.place();
-        match read_record(alloc, &self.core, &self.front, buffer, from, place) {
+        match read_record(alloc, &self.core, &self.front, self.held.slice(), place) {
             Ok((next, count)) => match next {
                 Some(record) => {
                     self.held.skip(count);

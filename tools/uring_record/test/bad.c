@@ -712,10 +712,6 @@ static void huge_files(void)
 	go(&ring, 2);
 }
 
-struct mode {
-	const char *name;
-	void (*runs)(void);
-};
 static const struct mode modes[] = {
 	{ "tail-too-far", tail_too_far },
 	{ "heads-and-tails", heads_and_tails },
@@ -762,13 +758,11 @@ int main(int count, char **words)
 		file = open("a", O_RDWR | O_CREAT, 0644);
 		open_ring(&ring, QUEUE, 0);
 	}
-	for (unsigned at = 0; at < sizeof modes / sizeof *modes; at++) {
-		if (count < 2)
-			puts(modes[at].name);
-		else if (!strcmp(words[1], modes[at].name))
-			modes[at].runs();
-	}
-	if (count > 1)
+	for (unsigned at = 0; count < 2 && at < sizeof modes / sizeof *modes; at++)
+		puts(modes[at].name);
+	if (count > 1) {
+		run_mode(modes, sizeof modes / sizeof *modes, words[1]);
 		well();
+	}
 	return 0;
 }

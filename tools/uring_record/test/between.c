@@ -570,10 +570,7 @@ static void any(void)
 	}
 }
 
-static const struct {
-	const char *name;
-	void (*run)(void);
-} modes[] = {
+static const struct mode modes[] = {
 	{ "shared", shared }, { "moved", moved }, { "updated", updated }, { "chosen", chosen },
 	{ "taken", taken },   { "root", root },	  { "left", left },	  { "nameless", nameless },
 	{ "passed", passed }, { "any", any },
@@ -586,11 +583,5 @@ int main(int count, char **words)
 	open_ring(&ring, ENTRIES, 0);
 	add(&ring, OP_NOP, 0, NULL, 0, 0);
 	expect("the first entry", run_one(&ring), 0);
-	for (unsigned at = 0; count > 1 && at < sizeof modes / sizeof *modes; at++) {
-		if (strcmp(words[1], modes[at].name))
-			continue;
-		modes[at].run();
-		return 0;
-	}
-	return 2;
+	return count > 1 && run_mode(modes, sizeof modes / sizeof *modes, words[1]) ? 0 : 2;
 }

@@ -299,10 +299,7 @@ static void told(void)
 	run("a mask");
 }
 
-static const struct {
-	const char *name;
-	void (*run)(void);
-} modes[] = {
+static const struct mode modes[] = {
 	{ "served", served }, { "chains", chains }, { "refused", refused },
 	{ "errors", errors }, { "filled", filled }, { "filled_buffer", filled_buffer },
 	{ "quiet", quiet },   { "told", told },
@@ -315,11 +312,5 @@ int main(int count, char **words)
 	file = open("a", O_RDWR | O_CREAT, 0644);
 	if (file < 0 || pipe(pipes) || socketpair(AF_UNIX, SOCK_STREAM, 0, sockets))
 		fail("a");
-	for (unsigned at = 0; count > 1 && at < sizeof modes / sizeof *modes; at++) {
-		if (strcmp(words[1], modes[at].name))
-			continue;
-		modes[at].run();
-		return 0;
-	}
-	return 2;
+	return count > 1 && run_mode(modes, sizeof modes / sizeof *modes, words[1]) ? 0 : 2;
 }

@@ -324,10 +324,6 @@ static void registers(void)
 }
 #endif
 
-struct mode {
-	const char *name;
-	void (*runs)(void);
-};
 static const struct mode modes[] = {
 	{ "rings", rings },	    { "last-end", last_end }, { "two-threads", two_threads },
 	{ "at-once", at_once },	    { "sqpoll", sqpoll },     { "another-issuer", another_issuer },
@@ -346,9 +342,5 @@ int main(int count, char **given)
 	file = open("a", O_RDWR | O_CREAT, 0644);
 	if (file < 0 || write(file, block, 4096) != 4096)
 		fail("a");
-	for (unsigned at = 0; at < sizeof modes / sizeof *modes; at++) {
-		if (!strcmp(given[1], modes[at].name))
-			modes[at].runs();
-	}
-	return 0;
+	return run_mode(modes, sizeof modes / sizeof *modes, given[1]) ? 0 : 1;
 }

@@ -485,10 +485,7 @@ static void written_away(void)
 	take_late(moved, 2);
 }
 
-static const struct mode {
-	const char *name;
-	void (*run)(void);
-} modes[] = {
+static const struct mode modes[] = {
 	{ "through_a_link", through_a_link },
 	{ "links", links },
 	{ "elsewhere", elsewhere_opened },
@@ -519,14 +516,11 @@ int main(int count, char **words)
 	file = open("a", O_CREAT | O_RDWR, 0644);
 	if (file < 0 || write(file, bytes, BYTES) != BYTES)
 		fail("a");
-	for (unsigned at = 0; at < sizeof modes / sizeof *modes; at++) {
-		if (count == 2 && !strcmp(words[1], modes[at].name)) {
-			modes[at].run();
-			add(&ring, OP_NOP, 0, NULL, 0, 0);
-			submit(&ring, 0);
-			return 0;
-		}
+	if (count != 2 || !run_mode(modes, sizeof modes / sizeof *modes, words[1])) {
+		fputs("marks MODE\n", stderr);
+		return 2;
 	}
-	fputs("marks MODE\n", stderr);
-	return 2;
+	add(&ring, OP_NOP, 0, NULL, 0, 0);
+	submit(&ring, 0);
+	return 0;
 }

@@ -26,6 +26,24 @@ struct ring {
 	unsigned added; /* entries since the last submission */
 };
 
+/* What a program does by a name. */
+struct mode {
+	const char *name;
+	void (*run)(void);
+};
+
+/* Runs the mode of a name, and tells whether there is one. */
+static inline bool run_mode(const struct mode *modes, size_t count, const char *name)
+{
+	for (size_t at = 0; at < count; at++) {
+		if (strcmp(name, modes[at].name))
+			continue;
+		modes[at].run();
+		return true;
+	}
+	return false;
+}
+
 /* Ends the program where a call fails that is not tested. */
 static inline void fail(const char *what)
 {

@@ -1,6 +1,7 @@
 use Rattle.std.proofs.Common.{rules}
+use Rattle.json_lines.proofs.Unwritten.{some_of_fault}
 use Rattle.diff_stream.proofs.Standing.{some_written, stops_none, takes_none}
-use Rattle.diff_stream.proofs.Ending.{compared, part_compared, refused_up_to, up_to, whole_is}
+use Rattle.diff_stream.proofs.Ending.{compared, part_compared, refused_up_to, up_to, up_to_write, whole_is}
 use Rattle.diff_stream.proofs.Standing.{found_written, moved_ends}
 use Rattle.diff_stream.proofs.report.compare_rest.Goals as goal
 
@@ -59,7 +60,13 @@ returns-in_err-write_as-clause-err g c = λ l r w at.
     let leaves2 = c.in_ok-other.ensures.ok is.second_ended in
     let it = whole_is c.args.form a b m l _ _ r _ _ w _ c.in_ok-one.one.items c.in_ok-other.other.items is ends leaves leaves2 in
     let compares = (rw (c.as_slice.ensures.value, c.as_slice-2.ensures.value) at c.in_ok-comparison.ensures.ok) it.is.one it.is.other it.is.taken it.is.merges it.awaits in
-    search (rules, part_compared c.args.form a b m l _ _ r _ _ w _ _ c.in_ok-one.one.items c.in_ok-other.other.items it leaves leaves2 c.in_ok-comparison.comparison c.as_slice-3.result.now c.as_slice-3.ensures.value compares c.in_err-write_as.ensures.some)
+    let e = c.in_err-write_as.field-0.0 in
+    let part = some_of_fault _ _ _ e c.in_err-write_as.ensures.err in
+    search (
+      rules,
+      up_to_write c.args.form l _ r _ w _ e
+          (part_compared c.args.form a b m l _ _ r _ _ w _ _ c.in_ok-one.one.items c.in_ok-other.other.items it leaves leaves2 c.in_ok-comparison.comparison c.as_slice-3.result.now c.as_slice-3.ensures.value compares part),
+    )
 
 pub returns-clause-ok : goal.returns-clause-ok
 returns-clause-ok g c = λ l r w at.
@@ -73,4 +80,4 @@ returns-clause-ok g c = λ l r w at.
     let leaves2 = c.in_ok-other.ensures.ok is.second_ended in
     let it = whole_is c.args.form a b m l _ _ r _ _ w _ c.in_ok-one.one.items c.in_ok-other.other.items is ends leaves leaves2 in
     let compares = (rw (c.as_slice.ensures.value, c.as_slice-2.ensures.value) at c.in_ok-comparison.ensures.ok) it.is.one it.is.other it.is.taken it.is.merges it.awaits in
-    compared c.args.form a b m l _ _ r _ _ w _ _ c.in_ok-one.one.items c.in_ok-other.other.items it leaves leaves2 c.in_ok-comparison.comparison compares (rw c.as_slice-3.ensures.value at c.in_ok-write_as.ensures.whole)
+    compared c.args.form a b m l _ _ r _ _ w _ _ c.in_ok-one.one.items c.in_ok-other.other.items it leaves leaves2 c.in_ok-comparison.comparison compares (rw c.as_slice-3.ensures.value at c.in_ok-write_as.ensures.ok)

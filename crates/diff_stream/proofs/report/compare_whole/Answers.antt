@@ -1,6 +1,7 @@
 use Rattle.std.proofs.Common.{rules}
+use Rattle.json_lines.proofs.Unwritten.{some_of_fault}
 use Rattle.diff_stream.proofs.Standing.{takes_none, takes_on}
-use Rattle.diff_stream.proofs.Ending.{both_whole, compared_whole, nothing_written, part_whole, refused_whole, up_to}
+use Rattle.diff_stream.proofs.Ending.{both_whole, compared_whole, nothing_written, part_whole, refused_whole, up_to, up_to_write}
 use Rattle.diff_stream.proofs.report.compare_whole.Goals as goal
 
 pub returns-in_err-one-clause-err : goal.returns-in_err-one-clause-err
@@ -35,7 +36,13 @@ returns-in_err-write_as-clause-err g c = λ l r one other odd.
     let leaves2 = c.in_ok-other.ensures.ok other.ended in
     let compares = rw (c.as_slice.ensures.value, c.as_slice-2.ensures.value) at c.in_ok-comparison.ensures.ok in
     let read = both_whole c.args.sides.first c.args.sides.second l _ _ r _ _ c.in_ok-one.one.items c.in_ok-other.other.items one other leaves leaves2 in
-    search (rules, part_whole c.args.form l _ r _ _ _ c.in_ok-one.one.items c.in_ok-other.other.items read c.in_ok-comparison.comparison compares c.as_slice-3.result.now c.as_slice-3.ensures.value c.in_err-write_as.ensures.some)
+    let e = c.in_err-write_as.field-0.0 in
+    let part = some_of_fault _ _ _ e c.in_err-write_as.ensures.err in
+    search (
+      rules,
+      up_to_write c.args.form l _ r _ _ _ e
+          (part_whole c.args.form l _ r _ _ _ c.in_ok-one.one.items c.in_ok-other.other.items read c.in_ok-comparison.comparison compares c.as_slice-3.result.now c.as_slice-3.ensures.value part),
+    )
 
 pub returns-clause-ok : goal.returns-clause-ok
 returns-clause-ok g c = λ l r one other.
@@ -43,4 +50,4 @@ returns-clause-ok g c = λ l r one other.
     let leaves2 = c.in_ok-other.ensures.ok other.ended in
     let compares = rw (c.as_slice.ensures.value, c.as_slice-2.ensures.value) at c.in_ok-comparison.ensures.ok in
     let read = both_whole c.args.sides.first c.args.sides.second l _ _ r _ _ c.in_ok-one.one.items c.in_ok-other.other.items one other leaves leaves2 in
-    compared_whole c.args.form l _ r _ _ _ c.in_ok-one.one.items c.in_ok-other.other.items read c.in_ok-comparison.comparison compares (rw c.as_slice-3.ensures.value at c.in_ok-write_as.ensures.whole)
+    compared_whole c.args.form l _ r _ _ _ c.in_ok-one.one.items c.in_ok-other.other.items read c.in_ok-comparison.comparison compares (rw c.as_slice-3.ensures.value at c.in_ok-write_as.ensures.ok)

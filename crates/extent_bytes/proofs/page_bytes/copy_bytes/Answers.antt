@@ -1,13 +1,25 @@
-use Rattle.std.proofs.Common.{◌≡◌, ◌+◌, ◌-◌, ◌*◌, length, get_or, arith, ap, sym, ◌∙◌, refl}
+use Rattle.std.proofs.Common.{◌≡◌, ◌+◌, ◌-◌, ◌*◌, length, get_or, arith, ap, sym, ◌∙◌, refl, Some}
 use Rattle.extent_bytes.specs.Pages.{page_byte}
-use Rattle.std.proofs.lemmas.Result.{on_ok_weaker}
+use Rattle.std.proofs.lemmas.Result.{on_err_weaker, on_ok_weaker}
 use Rattle.extent_bytes.proofs.Lists.{get_or-part, length-part}
-use Rattle.extent_bytes.proofs.PageFacts.{byte_at-page}
+use Rattle.extent_bytes.proofs.Outcomes.{on_ok_both}
+use Rattle.extent_bytes.proofs.PageFacts.{byte_at-page, same_bytes}
 use Rattle.extent_bytes.proofs.Overlays.{overlaid_to}
+use Rattle.extent_bytes.proofs.Parted.{page_taken}
 use Rattle.extent_bytes.proofs.page_bytes.copy_bytes.Goals as goal
 
-pub returns-in-Some-clause-ok : goal.returns-in-Some-clause-ok
-returns-in-Some-clause-ok c =
+pub returns-then-to-from-eq-PAGE_SIZE-clause-ok : goal.returns-then-to-from-eq-PAGE_SIZE-clause-ok
+returns-then-to-from-eq-PAGE_SIZE-clause-ok c =
+    let same = ap Some (c.in_ok-clone-in-Some.ensures.cases) ∙ sym c.in-Some.ensures.stored in
+    on_ok_both c.put.result
+    (λ put others. page_taken c.args.pages.now c.put.new.self c.args.source.now c.args.number c.args.source_number c.args.from c.args.to (omega arith) (omega arith) others (put ∙ same))
+    c.put.ensures.put c.put.ensures.others
+
+pub returns-then-to-from-eq-PAGE_SIZE-clause-err : goal.returns-then-to-from-eq-PAGE_SIZE-clause-err
+returns-then-to-from-eq-PAGE_SIZE-clause-err c = on_err_weaker c.put.result (λ e. same_bytes _ _ e) c.put.ensures.err
+
+pub returns-else-to-from-eq-PAGE_SIZE-clause-ok : goal.returns-else-to-from-eq-PAGE_SIZE-clause-ok
+returns-else-to-from-eq-PAGE_SIZE-clause-ok c =
     let k = c.args.number in
     let from = c.args.from in
     let to = c.args.to in

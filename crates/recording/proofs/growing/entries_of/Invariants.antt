@@ -4,4 +4,4 @@ use Rattle.recording.proofs.growing.entries_of.Given as goal
 
 -- the entries so far
 abbrev pub invariant-loop-entry : goal.invariant-loop-entry
-invariant-loop-entry l = l.made ≡ map submitted l.yielded
+invariant-loop-entry l = l.made.items ≡ map submitted l.yielded

@@ -1,9 +1,9 @@
 use Rattle.std.proofs.Common.{◌++◌, ℕ, IfOk, sym, subst}
-use Rattle.replay_stream.specs.Replayed.{HasRunNext}
+use Rattle.replay_stream.specs.Replayed.{HasRun, HasRunNext}
 use Rattle.replay_stream.specs.declared.replaying.Replaying.{Replaying}
 use Rattle.report_stream.specs.Steps.{StopsAt, UnderWay}
 use Rattle.report_stream.specs.Written.{WritesUpTo}
-use Rattle.report_stream.proofs.Turns.{at_end, before_lines, goes_on, may_run, memory_out, next_front, not_told, ran_last, stays, stopped_if, fails_if, told_out}
+use Rattle.report_stream.proofs.Turns.{at_end, before_lines, goes_on, let_on, may_run, memory_out, next_front, not_told, ran_last, stays, stopped_if, fails_if, told_out}
 use Rattle.report_stream.proofs.turn.take_turn.Goals as goal
 
 pub returns-in-Err-clause-ok : goal.returns-in-Err-clause-ok
@@ -74,6 +74,8 @@ returns-clause-ok g c = λ ahead a w h.
     let front = next_front ahead a _ w _ s p text shown form h _ c.next_record-found.new.stream next gives in
     let ran : HasRunNext h.start h.rs next q = subst (HasRunNext h.start h.rs next) (sym c.deref.ensures) (c.in_ok-replaying.ensures h.start h.rs h.run front) in
     let before = before_lines ahead a _ w _ s p text shown form h _ next q c.next_record-found.new.text.items moves ran in
-    subst (λ (r : Replaying). UnderWay ahead a left' w written' c.next_record-found.new.stream r c.tell.new.text.items shown form) c.deref.ensures
+    let told = subst (λ (r : Replaying). UnderWay ahead a left' w written' c.next_record-found.new.stream r c.tell.new.text.items shown form) c.deref.ensures
     (goes_on ahead a _ w _ s p text shown form h _ _ _ c.next_record-found.new.stream next q c.next_record-found.new.text.items c.tell.new.text.items gives moves ran
-    (c.in_ok-tell.ensures.ok h.start h.rs next (h.out ++ moves.0) ran before))
+    (c.in_ok-tell.ensures.ok h.start h.rs next (h.out ++ moves.0) ran before)) in
+    let_on ahead a left' w written' c.next_record-found.new.stream c.in_ok-replaying.replaying.value c.let_go.new.self c.tell.new.text.items shown form told
+    (λ start rs run. c.let_go.ensures start rs (subst (HasRun start rs) (sym c.deref_mut.ensures.value) run))

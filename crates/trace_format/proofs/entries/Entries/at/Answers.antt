@@ -13,4 +13,4 @@ returns c =
     let number = c.args.number in
     let lt : number < length spots = omega (arith, c.requires, ap length c.self.view_is, length-map spots (entry_at text)) in
     let there : slice_get spots number ≡ Some spot = slice_get_read spots (length spots) number spot refl lt c.index.ensures in
-    rw (← c.self.view_is, slice_get-map (entry_at text) spots number, there, c.entry.ensures) refl
+    rw (← c.self.view_is, slice_get-map (entry_at text) spots number, there, c.within.ensures) refl

@@ -8,5 +8,5 @@ returns-in_err-start-clause-err g c =
 
 pub returns-clause-ok : goal.returns-clause-ok
 returns-clause-ok g c =
-    opens c.args.ahead.items _ _ (c.in_ok-start.start, record { held = c.start_on.new.held; core = c.in_ok-core.core; front = c.new-2.result }) c.new-2.ensures c.in_ok-core.ensures
-    (rw c.in_ok-held.ensures at c.in_ok-start.ensures.ok)
+    rw c.in_ok-let_go.ensures.same (opens c.args.ahead.items _ _ (c.in_ok-start.start, record { held = c.start_on.new.held; core = c.in_ok-core.core; front = c.new-2.result }) c.new-2.ensures c.in_ok-core.ensures
+    (rw c.in_ok-held.ensures at c.in_ok-start.ensures.ok))
