@@ -24,7 +24,7 @@ use Rattle.world_parts.specs.World.{World, Change, quiet, loud, break_chain, slo
 use Rattle.world_parts.specs.Paths.{is_file_name}
 use Rattle.world_parts.proofs.FileNames.{Named, AllNaming, named_place, named_changes, named_start}
 use Rattle.op_meaning.specs.Site.{at_place, in_ring, sited}
-use Rattle.op_meaning.specs.Meaning.{Effect, done, bytes_in, Handle, handle, held, slot_count, can_write, is_bad_offset, span_start, span_destination, span_bytes, advance, Destination, reply, into, delivered, read_effect, readable, read_meaning, write_start, write_effect, writable, write_meaning, Allocation, extend, reserve, punch, zero_extend, zero_within, allocation, allocate, fallocate_meaning, ftruncate_meaning, room, lowest_free, filled, may_open, open_changes, open_as, opened_in, openat_meaning, put, held_in, held_path, held_other, sought, close_meaning, may_remove, unlinkat_meaning, mkdirat_meaning, linkat_meaning, may_replace, moved_name, move_meaning, exchange_meaning, goes_below, rename_to, renameat_meaning, node_told, measured, statx_meaning, statx_file_meaning, made_node, made_description, meaning}
+use Rattle.op_meaning.specs.Meaning.{Effect, done, bytes_in, Handle, handle, held, slot_count, can_write, is_bad_offset, span_start, span_destination, span_bytes, advance, Destination, reply, into, delivered, read_effect, readable, read_meaning, write_start, write_effect, writable, write_meaning, Allocation, extend, reserve, punch, zero_extend, zero_within, allocation, allocate, fallocate_meaning, ftruncate_meaning, room, lowest_free, filled, may_open, open_changes, open_as, opened_in, openat_meaning, put, held_in, held_path, sought, close_meaning, may_remove, unlinkat_meaning, mkdirat_meaning, linkat_meaning, may_replace, moved_name, move_meaning, exchange_meaning, goes_below, rename_to, renameat_meaning, node_told, measured, statx_meaning, statx_file_meaning, made_node, made_description, meaning}
 use Rattle.op_meaning.specs.Step.{Turn, filled as fills, registered, called, filled_slot, refused, canceled, runs, breaks, failed, changes_of, changes_in, turn, step_world, run_world}
 use Rattle.op_meaning.proofs.Fallible.{and_then, and_so, after}
 

@@ -15,12 +15,11 @@ use Rattle.trace_format.specs.Sides.{SideFits, is_side_of}
 use Rattle.trace_format.specs.Text.{buffer}
 use Rattle.trace_format.proofs.Apart.{AnyText, keeps_any, Own, apart, at_place, at_test, test_passed, at_known, at_done, at_choice, within_limit, each, length-several}
 use Rattle.trace_records.specs.Front.{Front, after, ring_at, sizes_of, places_of, no_records as no_front}
-use Rattle.trace_records.specs.Records.{ring_there, meant, stored, zeros, passed, refused, entry, enter, filled, fill, slot_at, descriptor_at, file_at, position, content, set, seek, ring, ring_ends, ring_starts, body, is_place, has_room, next}
+use Rattle.trace_records.specs.Records.{ring_there, meant, stored, zeros, passed, refused, entry, enter, filled, fill, slot_at, file_at, position, content, set, seek, ring, ring_ends, ring_starts, body, is_place, has_room, next}
 use Rattle.trace_records.specs.Whole.{Behind, Begins, Ends}
 use Rattle.trace_records.specs.declared.front.Sizes.{Sizes}
 use Rattle.trace_records.specs.declared.record.Entry.{Entry}
 use Rattle.trace_records.specs.declared.record.Beside.{Beside}
-use Rattle.trace_records.specs.declared.record.Content.{Content}
 use Rattle.trace_records.specs.declared.record.FileAt.{FileAt}
 use Rattle.trace_records.specs.declared.record.Ring as new
 use Rattle.trace_records.specs.declared.record.Record.{Record}
