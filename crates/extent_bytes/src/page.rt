@@ -91,6 +91,11 @@ impl Page {
         requires { at + length bytes.now ≤ PAGE_SIZE }
         ensures { IfOk result (λ page. page ≡ overwritten blank_page at bytes.now) }
     {
+        if let Some(whole) = bytes.as_array() {
+            return Ok(Page {
+                home: Home::Apart(Arc::new(alloc, *whole)?),
+            });
+        }
         let mut page = Page::blank(alloc)?;
         page.write(alloc, at, bytes)?;
         Ok(page)

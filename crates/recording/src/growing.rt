@@ -5,13 +5,14 @@ ghost use Rattle.recording.specs.Growing as meant;
 ghost use Rattle.recording.specs.Growing.{HasRoom};
 ghost use Rattle.recording.specs.Spelled.{IsSpelled};
 ghost use Rattle.recording.specs.declared.record.Record.TheVariants as kept;
+ghost use Rattle.trace_records.specs.Records as side;
 ghost use Rattle.trace_records.specs.declared.start.Descriptor as three;
 
 use crate::record::Record;
 use crate::recording::{Recording, Ring};
 use crate::steps::Steps;
 use std::alloc::{AllocError, Global};
-use trace_format::{Blob, EntryBuf, Gathered, Series, Version};
+use trace_format::{Blob, EntryBuf, Gathered, Given, Series, Version};
 use trace_records::{Beside, Descriptor, Entry, Filling, Start, Trace};
 
 /// Bytes, and zeros behind them, so many in all.
@@ -28,19 +29,18 @@ fn with_zeros(alloc: Global, front: &[u8], len: usize) -> Result<Blob, AllocErro
     Blob::from_vec(alloc, bytes)
 }
 
-/// An entry with the bytes beside it, which are stored, or its lengths and zeros; or with what is
-/// given of it. Stored bytes are not copied.
-fn submitted(alloc: Global, entry: Entry) -> Result<EntryBuf, AllocError>
-    ensures { IfOk result (λ e. e ≡ meant.submitted entry) }
+/// The bytes beside an entry, which are stored and not copied, or its lengths and zeros; or what is
+/// given of it.
+fn beside_of(alloc: Global, beside: Beside) -> Result<(Blob, Option<Given>), AllocError>
+    ensures { IfOk result (λ x. (x.0 ≡ side.meant beside) × (x.1 ≡ meant.given_in beside)) }
 {
-    let Entry { sqe, beside } = entry;
     match beside {
-        Beside::Stored { bytes } => Ok(EntryBuf::new(sqe, bytes, None)),
+        Beside::Stored { bytes } => Ok((bytes, None)),
         Beside::Zeros { lengths, len } => {
             let bytes = with_zeros(alloc, lengths.as_slice(), len as usize)?;
-            Ok(EntryBuf::new(sqe, bytes, None))
+            Ok((bytes, None))
         }
-        Beside::Given { given } => Ok(EntryBuf::new(sqe, Blob::empty(), Some(given))),
+        Beside::Given { given } => Ok((Blob::empty(), Some(given))),
     }
 }
 
@@ -50,7 +50,9 @@ fn entries_of(alloc: Global, entries: Vec<Entry>) -> Result<Gathered, AllocError
 {
     let mut made = Vec::with_capacity(alloc, entries.len())?;
     for entry in entries {
-        made.push(submitted(alloc, entry)?)?;
+        let Entry { sqe, beside } = entry;
+        let (side, given) = beside_of(alloc, beside)?;
+        made.push(EntryBuf::new(sqe, side, given))?;
     }
     Gathered::new(alloc, made)
 }
