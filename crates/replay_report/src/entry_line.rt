@@ -175,17 +175,14 @@ fn write_hexadecimal(digits: &mut [u8], bytes: &[u8])
     }
 }
 
-/// The digit of half a byte. Digits are computed and not looked up: so many are made at once.
+/// The digit of half a byte. Digits are computed and not looked up, and without a branch: so many
+/// are made at once.
 pub(crate) fn digit(half: u8) -> u8
     requires { half < 16 }
     ensures value { result ≡ slice_index lower_digits half }
     ensures ascii { result < 128 }
 {
-    if half < 10 {
-        b'0' + half
-    } else {
-        b'a' - 10 + half
-    }
+    b'0' + half + if half < 10 { 0 } else { b'a' - 10 - b'0' }
 }
 
 /// A number with its sign.
@@ -213,13 +210,23 @@ fn put_number(line: &mut [u8], end: usize, number: u64) -> usize
     itoa::write_digits(number, line, end)
 }
 
-fn put_text(line: &mut [u8], end: usize, text: &[u8]) -> usize
-    requires room { length text.now ≤ end }
+fn put_text<const N: usize>(line: &mut [u8], end: usize, text: &[u8; N]) -> usize
+    requires room { N ≤ end }
     requires within { end ≤ length line.old }
-    ensures start { result + length text.now ≡ end }
+    ensures start { result + N ≡ end }
     ensures written { drop result line.new ≡ text.now ++ drop end line.old }
 {
-    let start = end - text.len();
-    line[start..end].copy_from_slice(text);
+    let start = end - N;
+    put_first(&mut line[start..], text);
     start
+}
+
+/// Puts a text over the first bytes. Its length is known, so no more is asked than to store it.
+fn put_first<const N: usize>(bytes: &mut [u8], text: &[u8; N])
+    requires { N ≤ length bytes.old }
+    ensures { bytes.new ≡ text.now ++ drop N bytes.old }
+{
+    if let Some(first) = bytes.first_chunk_mut() {
+        *first = *text;
+    }
 }
