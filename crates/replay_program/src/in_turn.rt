@@ -13,6 +13,7 @@ use recording::Recording;
 use replay_core::ReplayFault;
 use replay_report::{Answer, Lines, Pieces, RingTexts, Shown, report_of_texts};
 use std::alloc::{AllocError, Global};
+use std::mem;
 use world_parts::State;
 
 /// The roles of so many places are found at once: what these wait for from memory then comes at once.
@@ -41,7 +42,11 @@ fn report_in_turn(alloc: Global, trace: &Recording, shown: Shown) -> Result<Piec
     let mut state = State::of(alloc, trace)?;
     let lines = Lines::of(trace, shown.names);
     let texts = texts_in_turn(alloc, trace, &mut state, lines)?;
-    report_of_texts(alloc, trace, texts, &state, shown)
+    let report = report_of_texts(alloc, trace, texts, &state, shown);
+    // The program ends behind its report. The system takes the memory back sooner than the pages of
+    // the world were given back one by one.
+    mem::forget(state);
+    report
 }
 
 /// Runs the places of a trace in recorded order on the world that it starts with, and gives the

@@ -13,6 +13,7 @@ use crate::turn::{Pending, Turn, take_turn};
 use byte_transfer::{Sink, Source};
 use replay_stream::Replaying;
 use std::alloc::{AllocError, Global};
+use std::mem;
 use std::thread::Threads;
 use trace_records::Start;
 use trace_stream::Stream;
@@ -59,7 +60,10 @@ pub fn write_report<T: Threads + Sync, R: Source, W: Sink>(
         match take_turn(alloc, &mut pending, replaying, reader, writer, asked)? {
             Turn::Next(next) => replaying = next,
             Turn::Last(last) => {
-                return write_end(rt, alloc, &mut pending.text, &last, writer, asked);
+                let ended = write_end(rt, alloc, &mut pending.text, &last, writer, asked);
+                // The program ends behind its report, and the system takes the world back.
+                mem::forget(last);
+                return ended;
             }
             Turn::Cut(front, at, fault) => {
                 return end_at_cut(rt, alloc, &front, (at, fault), writer, asked);

@@ -38,6 +38,14 @@ enum Part {
     Record,
 }
 
+/// How many bytes the largest record had, where this part had so many: the start is none.
+fn largest_with(part: Part, largest: usize, count: usize) -> usize {
+    match part {
+        Part::Start(_) => largest,
+        Part::Record => largest.max(count),
+    }
+}
+
 /// A buffer with a copy of these bytes.
 fn buffer_of(alloc: Global, bytes: &[u8]) -> Result<Text, AllocError>
     ensures { IfOk result (λ buffer. buffer.value.items ≡ bytes.now) }
@@ -124,6 +132,8 @@ pub(crate) struct Held {
     part: Part,
     // How many bytes the part has at least.
     least: usize,
+    // How many bytes the largest record so far had.
+    largest: usize,
     // How many bytes may be read again of one that may not be whole.
     credit: u64,
 }
@@ -159,6 +169,7 @@ impl Held {
             place: 0,
             part: Part::Start(StartWalk::new()),
             least: 0,
+            largest: 0,
             credit: PIECE as u64,
         })
     }
@@ -193,6 +204,7 @@ impl Held {
     {
         self.used += count;
         self.place += count as u64;
+        self.largest = largest_with(self.part, self.largest, count);
         self.part = Part::Record;
         self.least = 0;
     }
@@ -240,8 +252,18 @@ impl Held {
         Ok(count != 0)
     }
 
-    /// Whether the part may be whole, by the lengths in it that are there.
+    /// Whether a record may be whole that begins the bytes. Where there are as many as the largest one
+    /// so far had, no lengths are looked at. So it is wrong about once for each record that is larger
+    /// than those before it.
     pub(crate) fn may_be_whole(&mut self) -> bool
+        ensures same { self.new ≡ self.old }
+        ensures bound { self.new.place + length self.new.rest < 2 ^ 63 }
+    {
+        self.end - self.used >= self.largest || self.is_long_enough()
+    }
+
+    /// Whether the part may be whole, by the lengths in it that are there.
+    fn is_long_enough(&mut self) -> bool
         ensures same { self.new ≡ self.old }
         ensures bound { self.new.place + length self.new.rest < 2 ^ 63 }
     {
@@ -262,7 +284,7 @@ impl Held {
         ensures same { self.new ≡ self.old }
         ensures bound { self.new.place + length self.new.rest < 2 ^ 63 }
     {
-        if self.may_be_whole() {
+        if self.is_long_enough() {
             return true;
         }
         let cost = (self.end - self.used) as u64;

@@ -10,5 +10,5 @@ pub returns : goal.returns
 returns c =
     let t = c.args.trace.now in
     let texts = c.in_ok-texts.ensures.texts ∙ ap (λ lines. texts_below t (sequential_reply t) lines (places t)) c.of-lines.ensures in
-    IfOk-weaker c.report_of_texts.result _ _ (λ text e. report_made t c.in_ok-texts.texts c.texts_in_turn.new.state c.args.shown text texts c.in_ok-texts.ensures.world e)
-    c.report_of_texts.ensures
+    IfOk-weaker c.report_of_texts-report.result _ _ (λ text e. report_made t c.in_ok-texts.texts c.texts_in_turn.new.state c.args.shown text texts c.in_ok-texts.ensures.world e)
+    c.report_of_texts-report.ensures

@@ -42,12 +42,12 @@ returns-in_err-next-clause-taken g c =
 pub returns-in-Last-clause-ok : goal.returns-in-Last-clause-ok
 returns-in-Last-clause-ok g c =
     let h = rw c.in-Last.is at (c.in_ok-next.ensures.ok c.args.ahead.items (g.R.Source.left c.args.reader.now) (g.W.Sink.written c.args.writer.now) c.loop-pending.invariant.under_way) in
-    ends_ok c.write_end.result c.args.ahead.items _ _ _ _ _ c.in-Last.last.value c.deref.result.now _ c.args.asked.shown c.args.asked.form h c.deref.ensures c.write_end.ensures.whole c.write_end.ensures.ok
+    ends_ok c.write_end-ended.result c.args.ahead.items _ _ _ _ _ c.in-Last.last.value c.deref.result.now _ c.args.asked.shown c.args.asked.form h c.deref.ensures c.write_end-ended.ensures.whole c.write_end-ended.ensures.ok
 
 pub returns-in-Last-clause-err : goal.returns-in-Last-clause-err
 returns-in-Last-clause-err g c =
     let h = rw c.in-Last.is at (c.in_ok-next.ensures.ok c.args.ahead.items (g.R.Source.left c.args.reader.now) (g.W.Sink.written c.args.writer.now) c.loop-pending.invariant.under_way) in
-    ends_err c.args.asked.may_be_cut c.write_end.result c.args.ahead.items _ _ _ _ _ c.in-Last.last.value c.deref.result.now _ c.args.asked.shown c.args.asked.form h c.deref.ensures c.write_end.ensures.err
+    ends_err c.args.asked.may_be_cut c.write_end-ended.result c.args.ahead.items _ _ _ _ _ c.in-Last.last.value c.deref.result.now _ c.args.asked.shown c.args.asked.form h c.deref.ensures c.write_end-ended.ensures.err
 
 pub returns-in-Last-clause-taken : goal.returns-in-Last-clause-taken
 returns-in-Last-clause-taken g c =
