@@ -8,7 +8,8 @@ from typing import List, NamedTuple
 HERE = os.path.dirname(os.path.abspath(__file__))
 TOP = os.path.dirname(HERE)
 BUILT = os.path.join(TOP, "crates", "uring_replay", "out", "uring_replay")
-# What each kind is made by, with n for the number of entries, few for a 250th part of it, and long for the number of `files`.
+# What each kind is made by, with n for the number of entries, few for a 250th part of it, quarter for a fourth, and long for the number
+# of `files`.
 KINDS = {
     "rw": "rw {n} 64 64",
     "rings": "rings {n}",
@@ -20,7 +21,10 @@ KINDS = {
     "pages": "pages {n} 64",
     "appends": "appends {n}",
     "files": "files {long} 1024",
+    "over": "over {quarter} 4096 64",
 }
+# Those that the tables of docs/PERFORMANCE.md have.
+TABLED = [kind for kind in KINDS if kind != "over"]
 # What each kind is.
 ABOUT = {
     "rw": "reads and writes of 64 bytes at random in 64 MB",
@@ -33,6 +37,7 @@ ABOUT = {
     "pages": "reads, writes and fixed transfers of pages of 4,096 bytes in 64 MB",
     "appends": "writes of 64 bytes at the end",
     "files": "writes of 1 MiB to 64 files",
+    "over": "writes of 4,096 bytes over and over a file of 64 MB",
 }
 
 
@@ -75,7 +80,7 @@ def least(runs: List[Run], best: int) -> List[Cost]:
 
 def made_by(words: str, entries: int, long: int = 192) -> List[str]:
     """The words of `workloads.py` that make a trace of so many entries; the second is how many it really has."""
-    return words.format(n=entries, few=max(entries // 250, 1), long=long).split()
+    return words.format(n=entries, few=max(entries // 250, 1), quarter=max(entries // 4, 1), long=long).split()
 
 
 def written(words: List[str], folder: str) -> str:

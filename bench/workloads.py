@@ -16,6 +16,8 @@
     workloads.py pages N FILE_MB     READs of 4,096 bytes at random pages of a file of FILE_MB stored megabytes, each fourth entry a
                                   WRITE, READ_FIXED or WRITE_FIXED of as many in turn; 64 buffers
     workloads.py appends N           WRITEs of 64 bytes to a file that is open to append
+    workloads.py over N SIZE FILE_MB WRITEs of SIZE bytes one behind another to a file of FILE_MB megabytes, none of them stored, and from
+                                  its start again at its end; 4 rings
     workloads.py files N KB          WRITEs of KB kilobytes to 64 files in turn, one behind another; nothing collides
     workloads.py lone N KB           the same, each in a record of its own
 
@@ -226,6 +228,18 @@ def appends(n):
     records(n, 64, 1, make)
 
 
+def over(n, size, file_mb):
+    r = random.Random(11)
+    total = file_mb * MB
+    start(file(b"/data", total), 1, [1, 1, 1, 1], [([i + 1], []) for i in range(4)], n, 64)
+    data = r.randbytes(65536 + size)
+
+    def make(k, ring):
+        at = k & 0xffff
+        return entry(WRITE, FIXED_FILE, offset=k % (total // size) * size, length=size, user_data=k, side=data[at:at + size])
+    records(n, 64, 4, make)
+
+
 def files(n, kb, per=64):
     r = random.Random(9)
     size = kb << 10
@@ -248,7 +262,7 @@ def lone(n, kb):
 
 KINDS = {"rw": (rw, 3), "rings": (rings, 1), "one_file": (one_file, 1), "paths": (paths, 1), "chains": (chains, 1),
          "big": (big, 2), "position": (position, 2), "pages": (pages, 2), "appends": (appends, 1), "files": (files, 2),
-         "lone": (lone, 2)}
+         "lone": (lone, 2), "over": (over, 3)}
 
 
 def main(a):
