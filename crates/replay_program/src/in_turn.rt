@@ -43,8 +43,8 @@ fn report_in_turn(alloc: Global, trace: &Recording, shown: Shown) -> Result<Piec
     let lines = Lines::of(trace, shown.names);
     let texts = texts_in_turn(alloc, trace, &mut state, lines)?;
     let report = report_of_texts(alloc, trace, texts, &state, shown);
-    // The program ends behind its report. The system takes the memory back sooner than the pages of
-    // the world were given back one by one.
+    // The program ends behind its report, and the system takes the world back faster than
+    // destructors would.
     mem::forget(state);
     report
 }

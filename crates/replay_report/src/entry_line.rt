@@ -221,7 +221,7 @@ fn put_text<const N: usize>(line: &mut [u8], end: usize, text: &[u8; N]) -> usiz
     start
 }
 
-/// Puts a text over the first bytes. Its length is known, so no more is asked than to store it.
+/// Puts a text over the first bytes. Its length is a constant, so that it takes a store or two.
 fn put_first<const N: usize>(bytes: &mut [u8], text: &[u8; N])
     requires { N ≤ length bytes.old }
     ensures { bytes.new ≡ text.now ++ drop N bytes.old }
