@@ -57,6 +57,14 @@ FILE = re.compile(r"(?<![\w-])(?!linux/|sys/|asm-generic/|demo/)\b[\w.-]+(?:/[\w
 # A name of the code, as documents write it: with an underscore, or Type::name.
 NAME = re.compile(r"(?:[A-Z]\w*::)?([a-z][a-z0-9]*(?:_[a-z0-9]+)+)")
 SOURCES = (".rt", ".antt", ".py", ".c", ".h")
+# In this each promise names its functions and then the files that have them.
+PROMISES = "docs/GUARANTEES.md"
+# Names in code with nothing but commas between them. `same file` stands for the files before.
+TOGETHER = re.compile(r"(`[^`\n]+`(?:(?:, | and )`[^`\n]+`)*)(, same file)?")
+NAMES_AND_FILES = re.compile(r"((?:`[^`/.]+`(?:, | and )?)+)((?:`[\w/]+\.(?:rt|antt)`(?:, | and )?)*)")
+IDENTIFIER = re.compile(r"(?:[A-Z]\w*::)?([A-Za-z]\w*)")
+DEFINED = r"\b(?:fn|struct|enum|trait|record|data|abbrev|unfoldable)(?: pub)? {}\b"
+LEAST_PROMISED = 100
 
 
 def documents() -> List[str]:
@@ -131,6 +139,34 @@ def names(name: str, words: set) -> Outcome:
     return Outcome("{}: the files and names that it gives".format(name), first(sorted(set(faults))))
 
 
+def promised(text: str) -> Iterator[Tuple[str, List[str]]]:
+    """Each name that a text gives ahead of files, with these files."""
+    files: List[str] = []
+    for together, same in TOGETHER.findall(text):
+        # Names, and then the files that have them; behind these more names may come.
+        for names, paths in NAMES_AND_FILES.findall(together):
+            files = CODE.findall(paths) or files
+            if paths or same:
+                yield from ((it, files) for it in CODE.findall(names))
+
+
+def is_defined(name: str, files: List[str]) -> bool:
+    word = IDENTIFIER.fullmatch(name)
+    return word is not None and any(re.search(DEFINED.format(word[1]), text_of("crates/" + it)) for it in files if os.path.exists(os.path.join(TOP, "crates", it)))
+
+
+def promises() -> List[Outcome]:
+    """Whether each function that a promise names stands in the file that is named with it."""
+    found = list(promised(FENCED.sub("", text_of(PROMISES))))
+    faults = ["{} is not defined in {}".format(it, " or ".join(files)) for it, files in found if not is_defined(it, files)]
+    planted = [it for it in promised("`no_such`, `replay`, `replay_core/src/parallel.rt`.") if not is_defined(*it)]
+    return [
+        Outcome("{}: each function is in the file that it names".format(PROMISES), first(faults)),
+        Outcome("{}: it names functions with their files".format(PROMISES), "only {}".format(len(found)) if len(found) < LEAST_PROMISED else None),
+        Outcome("{}: a name that is gone is found".format(PROMISES), None if [it for it, _ in planted] == ["no_such"] else "{}".format(planted)),
+    ]
+
+
 def diffs(name: str) -> Outcome:
     """Whether each line that a diff of a document adds stands in its file."""
     faults, lines = [], set()
@@ -145,7 +181,7 @@ def diffs(name: str) -> Outcome:
 
 def written() -> List[Outcome]:
     words = words_of_sources()
-    outcomes = [of_lines(it) for it in MOST_LINES] + [is_short(it) for it in PLAIN if os.path.exists(os.path.join(TOP, it))]
+    outcomes = promises() + [of_lines(it) for it in MOST_LINES] + [is_short(it) for it in PLAIN if os.path.exists(os.path.join(TOP, it))]
     return outcomes + [outcome for it in documents() for outcome in (links(it), names(it, words), diffs(it))]
 
 
