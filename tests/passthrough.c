@@ -429,6 +429,9 @@ static bool serve_files(const struct request *it)
     case FUSE_READDIR:
         read_folder(it);
         return true;
+    case FUSE_FSYNCDIR:
+        answer(it, fsync(dirfd((DIR *)(uintptr_t)synced->fh)));
+        return true;
     case FUSE_RELEASEDIR:
         answer(it, closedir((DIR *)(uintptr_t)released->fh));
         return true;
@@ -463,7 +466,6 @@ static void serve(const struct request *it)
         tell_space(it);
         return;
     case FUSE_FLUSH:
-    case FUSE_FSYNCDIR:
         reply(it, 0, NULL, 0);
         return;
     }
