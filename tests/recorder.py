@@ -175,7 +175,7 @@ def rings(program: Program) -> List[Outcome]:
 def harmless(program: Program) -> List[Outcome]:
     """What a program and its threads can see of the recorder."""
     harm = tools().file("harm")
-    cases = (["last-end"], ["last-end", "socket"], ["two-threads"], ["two-threads", "waits"], ["locks"], ["executes"], ["meanwhile"], ["registers"], ["sqpoll"], ["another-issuer"])
+    cases = (["last-end"], ["last-end", "socket"], ["two-threads"], ["two-threads", "waits"], ["locks"], ["executes"], ["meanwhile"], ["registers"], ["sqpoll"], ["another-issuer"], ["untraced"])
     return [same(program, [harm, *it], words) for it in cases for words in ([], ["--wait"])]
 
 

@@ -2,10 +2,12 @@
 #include "ahead.h"
 #include "aside.h"
 #include "calls.h"
+#include "clones.h"
 #include "completions.h"
 #include "memory.h"
 #include "notes.h"
 #include "others.h"
+#include "registers.h"
 #include "signals.h"
 #include "start.h"
 #include "stream.h"
@@ -15,6 +17,7 @@
 #include <fcntl.h>
 #include <linux/audit.h>
 #include <linux/filter.h>
+#include <linux/sched.h>
 #include <linux/seccomp.h>
 #include <signal.h>
 #include <stdio.h>
@@ -26,7 +29,6 @@
 #include <linux/ptrace.h>
 #include <sys/resource.h>
 #include <sys/syscall.h>
-#include <sys/user.h>
 #include <sys/wait.h>
 #include <time.h>
 #include <unistd.h>
@@ -40,6 +42,8 @@ struct thread {
 	bool is_in_call;
 	bool is_early;	   /* the call began before the start, which waits for its end */
 	bool is_postponed; /* it is stopped at the call until such calls have ended */
+	bool has_begun;	   /* it was seen before */
+	bool is_new;	   /* it is stopped until it is known of which call it is the child */
 	struct call call;
 	struct ring *ring; /* of io_uring_enter: its ring, and what it submits */
 	struct record *record;
@@ -99,51 +103,12 @@ static void forget_thread(pid_t id)
 		if (gone->record)
 			gone->record->is_open = false;
 		unwatch_thread(id);
+		caller_is_gone(id);
 		forget_call(&gone->call);
 		free(gone);
 		return;
 	}
 }
-
-/* Registers: changed arguments and results, where the machine is one that is known here. */
-
-#ifdef __x86_64__
-/* Gives the call that a thread is about to make other arguments. */
-static void put_arguments(pid_t thread, const u64 *arguments)
-{
-	struct user_regs_struct registers;
-
-	if (ptrace(PTRACE_GETREGS, thread, 0, &registers))
-		return;
-	registers.rsi = arguments[1];
-	registers.rdx = arguments[2];
-	registers.r10 = arguments[3];
-	registers.r8 = arguments[4];
-	registers.r9 = arguments[5];
-	ptrace(PTRACE_SETREGS, thread, 0, &registers);
-}
-
-/* Changes the result of the call that a thread has made. */
-static void change_result(pid_t thread, u64 value)
-{
-	struct user_regs_struct registers;
-
-	if (ptrace(PTRACE_GETREGS, thread, 0, &registers))
-		return;
-	registers.rax = value;
-	ptrace(PTRACE_SETREGS, thread, 0, &registers);
-}
-#else
-static void put_arguments(pid_t thread, const u64 *arguments)
-{
-	(void)thread, (void)arguments;
-}
-
-static void change_result(pid_t thread, u64 value)
-{
-	(void)thread, (void)value;
-}
-#endif
 
 /* Changes an argument of the call that a thread is about to make. */
 static void change_argument(struct thread *thread, int index, u64 value)
@@ -549,6 +514,9 @@ static bool begins(struct thread *thread)
 	case SYS_exit_group:
 		reap_all(thread->process, thread->id);
 		return false;
+	case SYS_clone:
+	case SYS_clone3:
+		return clone_begins(call);
 	default:
 		/* (without another thread none can begin the trace meanwhile) */
 		thread->is_early = !is_started() && threads->next && may_change(call);
@@ -625,6 +593,10 @@ static void ended(struct thread *thread, i64 result)
 			unmapped(thread->process, thread->call.arguments[0],
 				 thread->call.arguments[0] + thread->call.arguments[1]);
 		break;
+	case SYS_clone:
+	case SYS_clone3:
+		clone_ended(thread->id);
+		break;
 	default:
 		thread->is_early = false;
 		call_ended(&thread->call, result);
@@ -672,16 +644,30 @@ static u16 filter_locks(struct sock_filter *filter, u16 length)
 	return length;
 }
 
+/* The same where clone(2) asks for a child without a tracer. */
+static u16 filter_clones(struct sock_filter *filter, u16 length)
+{
+	filter[length++] = jump_if_equal(SYS_clone, 0, 4);
+	filter[length++] =
+		statement(BPF_LD | BPF_W | BPF_ABS, offsetof(struct seccomp_data, args[0]));
+	filter[length++] = (struct sock_filter){ BPF_JMP | BPF_JSET | BPF_K, 1, 0, CLONE_UNTRACED };
+	filter[length++] = statement(BPF_RET | BPF_K, SECCOMP_RET_ALLOW);
+	filter[length++] = statement(BPF_RET | BPF_K, SECCOMP_RET_TRACE);
+	return length;
+}
+
 /* In the command: stops it at the calls that matter, and at none of a program of another
  * architecture. */
 static bool set_filter(void)
 {
 	static const long of_rings[] = {
-		SYS_io_uring_setup, SYS_io_uring_enter, SYS_io_uring_register, SYS_mmap, SYS_munmap,
-		SYS_exit_group,	    SYS_execve,		SYS_execveat,	       SYS_flock
+		SYS_io_uring_setup, SYS_io_uring_enter, SYS_io_uring_register,
+		SYS_mmap,	    SYS_munmap,		SYS_exit_group,
+		SYS_execve,	    SYS_execveat,	SYS_flock,
+		SYS_clone3
 	};
 	enum { OF_RINGS = sizeof of_rings / sizeof *of_rings };
-	struct sock_filter filter[MOST_CALLS + 16];
+	struct sock_filter filter[MOST_CALLS + 24];
 	long numbers[MOST_CALLS];
 	u16 length = 0;
 
@@ -692,6 +678,7 @@ static bool set_filter(void)
 	filter[length++] = statement(BPF_RET | BPF_K, SECCOMP_RET_ALLOW);
 	filter[length++] = statement(BPF_LD | BPF_W | BPF_ABS, offsetof(struct seccomp_data, nr));
 	length = filter_locks(filter, length);
+	length = filter_clones(filter, length);
 	for (u32 at = 0; at < count; at++)
 		filter[length++] = jump_if_equal((u32)numbers[at], count - at, 0);
 	filter[length++] = statement(BPF_RET | BPF_K, SECCOMP_RET_ALLOW);
@@ -785,6 +772,37 @@ static void exits(struct thread *thread)
 	reap_all(thread->process, thread->id);
 }
 
+/* A thread has a child, which may have been asked for without a tracer. */
+static void tell_child(const struct thread *thread)
+{
+	unsigned long child = 0;
+
+	if (!ptrace(PTRACE_GETEVENTMSG, thread->id, 0, &child))
+		has_cloned(thread->id, (pid_t)child);
+}
+
+/* A thread is stopped as a child may be that begins: whether it waits. */
+static bool begins_as_child(struct thread *thread)
+{
+	thread->is_new = !thread->has_begun && waits_for_caller(thread->id);
+	if (!thread->has_begun && !thread->is_new)
+		child_begins(thread->id);
+	thread->has_begun = true;
+	return thread->is_new;
+}
+
+/* Lets the new threads go on that waited. */
+static void let_children_begin(void)
+{
+	for (struct thread *it = threads; it; it = it->next) {
+		if (!it->is_new || waits_for_caller(it->id))
+			continue;
+		it->is_new = false;
+		child_begins(it->id);
+		ptrace(PTRACE_CONT, it->id, 0, 0);
+	}
+}
+
 /* What a stopped thread is told; false where it stays as it is. */
 static bool stopped(struct thread *thread, int status, u64 *signal_to_pass)
 {
@@ -816,6 +834,8 @@ static bool stopped(struct thread *thread, int status, u64 *signal_to_pass)
 		if (thread->reaps)
 			reap(thread->reaps, thread->id, true);
 		thread->reaps = NULL;
+		if (begins_as_child(thread))
+			return false;
 		if (signal_number == SIGSTOP || signal_number == SIGTSTP ||
 		    signal_number == SIGTTIN || signal_number == SIGTTOU) {
 			ptrace(PTRACE_LISTEN, thread->id, 0, 0);
@@ -825,6 +845,9 @@ static bool stopped(struct thread *thread, int status, u64 *signal_to_pass)
 		executed(thread);
 	} else if (event == PTRACE_EVENT_EXIT) {
 		exits(thread);
+	} else if (event == PTRACE_EVENT_CLONE || event == PTRACE_EVENT_FORK ||
+		   event == PTRACE_EVENT_VFORK) {
+		tell_child(thread);
 	} else if (!event) {
 		*signal_to_pass = (u64)signal_number;
 	}
@@ -867,6 +890,7 @@ int run_command(char **words, bool *has_run)
 	*has_run = false;
 	for (;;) {
 		make_postponed_calls();
+		let_children_begin();
 		pid_t id = waitpid(-1, &status, __WALL);
 		u64 signal_to_pass = 0;
 		int ending = has_ticked() ? at_tick() : 0;

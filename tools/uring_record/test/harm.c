@@ -4,7 +4,9 @@
  * mode needs. */
 #include "raw.h"
 
+#include <linux/sched.h>
 #include <pthread.h>
+#include <signal.h>
 #include <sys/file.h>
 #include <sys/resource.h>
 #include <sys/socket.h>
@@ -14,6 +16,7 @@ static struct ring ring;
 static int file; /* "a", with a block of bytes */
 static char block[1 << 16];
 static char **words; /* behind the mode */
+static int is_over;  /* of what other threads do */
 
 /* A number among the words. */
 static unsigned number(unsigned at)
@@ -261,8 +264,6 @@ static void executes(void)
 	}
 }
 
-static int is_over;
-
 /* Makes, fills and moves a file by calls, until all is over. */
 static void *changes_files(void *of)
 {
@@ -317,8 +318,96 @@ static void registers(void)
 			 : "rcx", "r11", "memory");
 	printf("%ld: %ld %ld %ld %ld %ld\n", result, one, two, three, four, five);
 }
+
+/* Makes a call with two arguments, and tells whether the first one's register and the memory below
+ * the stack are as they were then. */
+static long call_untouched(long number, long first, long second, bool *is_untouched)
+{
+	long result, kept, differs;
+
+	__asm__ volatile("lea -1024(%%rsp), %%rdi\n\t"
+			 "mov $896, %%ecx\n\t"
+			 "mov $0x5a, %%al\n\t"
+			 "rep stosb\n\t"
+			 "mov %[first], %%rdi\n\t"
+			 "mov %[second], %%rsi\n\t"
+			 "mov %[number], %%rax\n\t"
+			 "xor %%edx, %%edx\n\t"
+			 "syscall\n\t"
+			 "mov %%rax, %[result]\n\t"
+			 "mov %%rdi, %[kept]\n\t"
+			 "lea -1024(%%rsp), %%rdi\n\t"
+			 "mov $896, %%ecx\n\t"
+			 "mov $0x5a, %%al\n\t"
+			 "xor %%esi, %%esi\n\t"
+			 "repe scasb\n\t"
+			 "setne %%sil\n\t"
+			 "mov %%rsi, %[differs]"
+			 : [result] "=&r"(result), [kept] "=&r"(kept), [differs] "=&r"(differs)
+			 : [number] "r"(number), [first] "r"(first), [second] "r"(second)
+			 : "rax", "rcx", "rdx", "rsi", "rdi", "r11", "memory");
+	*is_untouched = kept == first && !differs;
+	return result;
+}
+
+/* A child that is to have no tracer: it writes to a file, and ends. */
+static void has_child(const char *name, long number, long first, long second)
+{
+	bool is_untouched;
+	long child = call_untouched(number, first, second, &is_untouched);
+	int status = -1;
+
+	if (!child) {
+		int made = open(name, O_WRONLY | O_CREAT, 0644);
+		syscall(SYS_exit_group, made >= 0 && write(made, name, 5) == 5 ? is_untouched : 9);
+	}
+	waitpid((pid_t)child, &status, __WALL);
+	printf("%s: %x %d\n", name, (unsigned)status, is_untouched);
+}
+
+/* Watches the arguments of a call, until all is over. */
+static void *watches(void *arguments)
+{
+	const volatile struct clone_args *of = arguments;
+	static long changes;
+
+	while (!__atomic_load_n(&is_over, __ATOMIC_RELAXED))
+		changes += of->flags != CLONE_UNTRACED;
+	return &changes;
+}
+
+/* Children that are to have no tracer, by arguments that are watched and cannot be written. */
+static void untraced(void)
+{
+	enum { CHILDREN = 50 };
+	struct clone_args *arguments =
+		mmap(NULL, 4096, PROT_READ | PROT_WRITE, MAP_PRIVATE | MAP_ANONYMOUS, -1, 0);
+	pthread_t thread;
+	void *changes;
+
+	write_and_read(&ring);
+	has_child("child by clone", SYS_clone, CLONE_UNTRACED | SIGCHLD, 0);
+	has_child("child by vfork", SYS_clone, CLONE_UNTRACED | CLONE_VFORK | SIGCHLD, 0);
+	arguments->flags = CLONE_UNTRACED;
+	arguments->exit_signal = SIGCHLD;
+	has_child("child by clone3", SYS_clone3, (long)arguments, sizeof *arguments);
+	has_child("child that is refused", SYS_clone3, (long)arguments, 8);
+	mprotect(arguments, 4096, PROT_READ);
+	pthread_create(&thread, NULL, watches, arguments);
+	for (unsigned at = 0; at < CHILDREN; at++)
+		has_child("child by clone3 again", SYS_clone3, (long)arguments, sizeof *arguments);
+	__atomic_store_n(&is_over, 1, __ATOMIC_RELAXED);
+	pthread_join(thread, &changes);
+	printf("%ld changes\n", *(long *)changes);
+	write_and_read(&ring);
+}
 #else
 static void registers(void)
+{
+	exit(UNTRIED);
+}
+
+static void untraced(void)
 {
 	exit(UNTRIED);
 }
@@ -329,7 +418,7 @@ static const struct mode modes[] = {
 	{ "at-once", at_once },	    { "sqpoll", sqpoll },     { "another-issuer", another_issuer },
 	{ "blocks", blocks },	    { "places", places },     { "touches", touches },
 	{ "registers", registers }, { "locks", locks },	      { "executes", executes },
-	{ "meanwhile", meanwhile },
+	{ "meanwhile", meanwhile }, { "untraced", untraced },
 };
 
 int main(int count, char **given)
