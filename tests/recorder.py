@@ -176,7 +176,8 @@ def harmless(program: Program) -> List[Outcome]:
     """What a program and its threads can see of the recorder."""
     harm = tools().file("harm")
     cases = (["last-end"], ["last-end", "socket"], ["two-threads"], ["two-threads", "waits"], ["locks"], ["executes"], ["meanwhile"], ["registers"], ["sqpoll"], ["another-issuer"], ["untraced"])
-    return [same(program, [harm, *it], words) for it in cases for words in ([], ["--wait"])]
+    quiet = [same(program, [harm, "quiet"], words) for words in ([], ["--drain"], [*VERSION_2, "--drain"])]
+    return [*quiet, *(same(program, [harm, *it], words) for it in cases for words in ([], ["--wait"]))]
 
 
 def bad(program: Program, words: Sequence[str]) -> List[Outcome]:

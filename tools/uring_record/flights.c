@@ -127,7 +127,6 @@ void launch(struct flight *flight)
 	ring->in_flight++;
 	flight->fills = fills_slots(flight);
 	ring->updating += flight->fills;
-	ring->has_quiet |= is_quiet(flight);
 	if (is_quiet(flight) && ++quiet_count > MOST_QUIET)
 		land_a_quiet_one(ring);
 }

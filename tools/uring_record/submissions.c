@@ -489,13 +489,6 @@ static u64 entry_address(const struct ring *ring, pid_t thread, u32 index)
 	return ring->sqes + ((u64)at << shift);
 }
 
-/* Gives the kernel IO_DRAIN on an entry; it is not recorded. */
-static void drain_in_kernel(pid_t thread, u64 address, u8 flags)
-{
-	flags |= FLAG_DRAIN;
-	store(thread, address + offsetof(struct io_uring_sqe, flags), &flags, 1);
-}
-
 /* Reads the entries of the queue as they are, up to an index that the kernel drops: there it ends
  * the call. */
 static void read_entries(struct ring *ring, pid_t thread, struct record *record, u32 head,
@@ -513,17 +506,42 @@ static void read_entries(struct ring *ring, pid_t thread, struct record *record,
 		}
 		entry->opcode = entry->sqe.opcode;
 		entry->record = record;
-		bool is_head = !record->count || !goes_on(&entry[-1].sqe);
-		if (options.drain && is_head && !(entry->sqe.flags & (FLAG_DRAIN | FLAG_SKIP)))
-			drain_in_kernel(thread, address, entry->sqe.flags);
+		if (options.drain && entry->sqe.flags & FLAG_SKIP && !ring->has_quiet)
+			note("a ring with CQE_SKIP_SUCCESS, which no kernel drains: --drain leaves "
+			     "it alone from here on",
+			     entry);
+		ring->has_quiet |= entry->sqe.flags & FLAG_SKIP;
 		record->count++;
 	}
 }
 
-/* Whether the kernel drains a chain: any of its members asks for it, or the recorder does. */
-static bool is_drained(const struct entry *head, const struct entry *end)
+/* Whether the recorder has a ring drained: the kernel refuses IO_DRAIN behind an entry with
+ * CQE_SKIP_SUCCESS. */
+static bool drains(const struct ring *ring)
 {
-	bool is_asked = options.drain && !(head->sqe.flags & FLAG_SKIP);
+	return options.drain && !ring->has_quiet;
+}
+
+/* Puts the flags of the heads of a call into the queue: with IO_DRAIN for the kernel, which is not
+ * recorded, and as they were when it has taken them. */
+static void put_flags(const struct ring *ring, pid_t thread, const struct record *record, u8 more)
+{
+	for (u32 at = 0; at < record->count; at++) {
+		const struct entry *entry = &record->entries[at];
+		u8 flags = entry->sqe.flags | more;
+		if (entry->sqe.flags & FLAG_DRAIN || (at && goes_on(&entry[-1].sqe)))
+			continue;
+		store(thread,
+		      entry_address(ring, thread, record->from + at) +
+			      offsetof(struct io_uring_sqe, flags),
+		      &flags, 1);
+	}
+}
+
+/* Whether the kernel drains a chain: any of its members asks for it, or the recorder does. */
+static bool is_drained(const struct ring *ring, const struct entry *head, const struct entry *end)
+{
+	bool is_asked = drains(ring);
 
 	for (const struct entry *it = head; it < end; it++) {
 		is_asked |= it->sqe.flags & FLAG_DRAIN;
@@ -559,7 +577,7 @@ static void take_entries(struct ring *ring, pid_t thread, struct record *record)
 			chain.first = it;
 			chain.is_broken = is_doomed(ring, it, end);
 			chain.may_fill = false;
-			chain.is_drained = is_drained(it, end);
+			chain.is_drained = is_drained(ring, it, end);
 			if (chain.is_drained)
 				ring->barrier = chain.head;
 		}
@@ -597,9 +615,12 @@ struct record *submission(struct ring *ring, pid_t thread, pid_t process, u32 wa
 	start(ring->submitter);
 	begin_batch();
 	struct record *record = new_record(ring, count);
-	read_entries(ring, thread, record, head, count);
-	read_sides_ahead(record, thread);
 	record->from = head;
+	read_entries(ring, thread, record, head, count);
+	record->is_drained = drains(ring);
+	if (record->is_drained)
+		put_flags(ring, thread, record, FLAG_DRAIN);
+	read_sides_ahead(record, thread);
 	ring->claimed += record->claimed;
 	ring->callers++;
 	for (u32 at = 0; at < record->count; at++) {
@@ -652,6 +673,8 @@ void submitted(struct ring *ring, pid_t thread, struct record *record, u32 taken
 {
 	ring->callers--;
 	record->is_open = false;
+	if (record->is_drained && ring->sq && !ring->is_shared)
+		put_flags(ring, thread, record, 0);
 	if (record->is_gone) { /* (all of it was taken, and is written) */
 		leave_record(record);
 		reap(ring, thread, true);

@@ -127,8 +127,9 @@ struct record {
 	u64 size;     /* its bytes in the trace, or a few more */
 	u32 settled;  /* so many of its entries will be written as they are now */
 	u32 final;    /* so many will have no other result or mark */
-	u32 from;     /* where in the queue its call begins */
-	u32 claimed;  /* how many places of the queue its call takes, or would have taken */
+	bool is_drained; /* the kernel was given IO_DRAIN on its heads */
+	u32 from;	 /* where in the queue its call begins */
+	u32 claimed;	 /* how many places of the queue its call takes, or would have taken */
 	u32 taker; /* the first entry, from 1, that may take a number which the replay does not */
 	bool has_taken; /* such an entry did */
 	struct entry *entries;

@@ -77,6 +77,30 @@ static void last_end(void)
 	printf("%zd bytes behind the last\n", read(ends[0], &byte, 1));
 }
 
+/* Entries that post nothing where they succeed, behind such that are submitted again as they are.
+ */
+static void quiet(void)
+{
+	char byte;
+	struct io_uring_sqe *sqe = add(&ring, OP_READ, file, &byte, 1, 0);
+	struct io_uring_sqe kept = *sqe;
+
+	expect("a read", run_one(&ring), 1);
+	for (unsigned at = 0; at < 3; at++) {
+		struct io_uring_sqe *again = add(&ring, OP_NOP, 0, NULL, 0, 0);
+		*again = kept;
+		add(&ring, OP_FSYNC, file, NULL, 0, 0)->flags = FLAG_ASYNC;
+		submit(&ring, 2);
+		expect("a read again", take(&ring) + take(&ring), 1);
+		printf("flags %x and %x\n", sqe->flags, again->flags);
+	}
+	for (unsigned at = 0; at < 3; at++) {
+		add(&ring, OP_WRITE, file, "word", 4, 0)->flags = FLAG_SKIP;
+		add(&ring, OP_READ, file, &byte, 1, 0);
+		expect("a read behind a write that posts nothing", run_one(&ring), 1);
+	}
+}
+
 static unsigned taken;
 enum { READS = 200 };
 
@@ -418,7 +442,7 @@ static const struct mode modes[] = {
 	{ "at-once", at_once },	    { "sqpoll", sqpoll },     { "another-issuer", another_issuer },
 	{ "blocks", blocks },	    { "places", places },     { "touches", touches },
 	{ "registers", registers }, { "locks", locks },	      { "executes", executes },
-	{ "meanwhile", meanwhile }, { "untraced", untraced },
+	{ "meanwhile", meanwhile }, { "untraced", untraced }, { "quiet", quiet },
 };
 
 int main(int count, char **given)
