@@ -2,6 +2,7 @@
 import math
 import os
 import re
+import resource
 import shutil
 import signal
 import subprocess
@@ -21,6 +22,8 @@ SECONDS = 60
 SIGNALLED = 128
 NOBODY = 65534
 MOST_NAMES, MOST_PLACES = 65535, 1048576
+# So many names need more room than 16 bytes each.
+NAMES_WITHOUT_ROOM = 500
 # A call with one user_data for all entries may cost so many times one with a user_data for each; less than this is noise.
 TIMES, NOISE = 2.0, 0.3
 SANITIZE = ["-fsanitize=address,undefined", "-fno-sanitize-recover=all"]
@@ -79,10 +82,12 @@ def tools() -> Built:
 
 # --- Runs -----------------------------------------------------------------------------------------------------------
 
-def ran_in(folder: str, words: Sequence[str], given: Sequence[Tuple[float, int]] = (), user: Optional[int] = None) -> Ran:
-    """Runs words in a folder, sends signals after so many seconds each, and kills what does not end."""
+def ran_in(folder: str, words: Sequence[str], given: Sequence[Tuple[float, int]] = (), user: Optional[int] = None, most: Optional[int] = None) -> Ran:
+    """Runs words in a folder, sends signals after so many seconds each, and kills what does not end. No file may have more than the most bytes."""
     as_user: Dict = {} if user is None else {"user": user, "group": user, "extra_groups": []}
     environment = {**os.environ, "ASAN_OPTIONS": "detect_leaks=0"}
+    if most is not None:
+        as_user["preexec_fn"] = lambda: resource.setrlimit(resource.RLIMIT_FSIZE, (most, resource.RLIM_INFINITY))
     with tempfile.TemporaryFile() as output, tempfile.TemporaryFile() as errors:
         started = subprocess.Popen(words, cwd=folder, stdin=subprocess.DEVNULL, stdout=output, stderr=errors, env=environment, **as_user)
         killed = []
@@ -292,6 +297,47 @@ def ended(program: Program, name: str, words: Sequence[str], mode: Sequence[str]
     return Outcome("the recorder: the limit of {}".format(name), fault)
 
 
+def filled(program: Program, at: str, words: Sequence[str], mode: Sequence[str], most: Optional[int] = None) -> Outcome:
+    """Where a file of the recorder takes no more, both are cut behind a record, and the command ends as alone. (A limit of the recorder alone is as good as a
+    full disk.) The trace and its results lie in a folder, and the command runs below it."""
+    built = tools()
+    path, root = os.path.join(at, "a"), os.path.join(at, "root")
+    os.mkdir(root)
+    script = 'ulimit -S -f unlimited; "$@"; echo "status $?" >&2; exit 3'
+    given = [built.file("uring_record"), *words, "-o", path + ".trace", "-k", path + ".kernel", "--", "sh", "-c", script, "sh", built.file("harm"), *mode]
+    ran = ran_in(root, given, most=most)
+    label = "the recorder: {} with a full disk, {}".format(spoken(words), spoken(mode))
+    is_well = ran.status == 3 and "\nstatus 0\n" in "\n" + ran.said() and "the recording ends here" in ran.said()
+    fault = None if is_well else fault_of(ran)
+    fault = fault or accepted(program, path + ".trace") or replayed(program, path)
+    places = int(program.run(["check"], path + ".trace").output.split()[1]) if not fault else 0
+    return Outcome(label, fault or (None if places else "no record is left"))
+
+
+def full_disks(program: Program) -> List[Outcome]:
+    built, outcomes = tools(), []
+    cases = (([], ["blocks", "40"]), ([], ["places", "40960"]), (VERSION_2, ["blocks", "40"]), (VERSION_2, ["places", "16384"]))
+    for number, (words, mode) in enumerate(cases):
+        outcomes.append(filled(program, built.directory("filled{}".format(number)), words, mode, 950000))
+    # (with no room for the start there is nothing, and the command is left alone all the same)
+    for number, words in enumerate(([], VERSION_2)):
+        path = built.directory("no-room{}".format(number))
+        for at in range(NAMES_WITHOUT_ROOM):
+            os.close(os.open(os.path.join(path, "a name of the start {}".format(at)), os.O_CREAT | os.O_WRONLY, 0o644))
+        given = [built.file("uring_record"), *words, "-o", path + ".trace", "-k", path + ".kernel", "--", built.file("harm"), "rings", "2"]
+        ran = ran_in(path, given, most=NAMES_WITHOUT_ROOM * 16)
+        is_well = ran.status == 0 and "the recording ends here" in ran.said() and os.path.getsize(path + ".trace") == os.path.getsize(path + ".kernel") == 0
+        outcomes.append(Outcome("the recorder: {} without room for the start".format(spoken(words)), None if is_well else fault_of(ran)))
+    at = built.directory("small-disk")
+    lacking = subprocess.run(["mount", "-t", "tmpfs", "-o", "size=1m", "none", at], stdin=subprocess.DEVNULL, stdout=subprocess.PIPE, stderr=subprocess.STDOUT)
+    if lacking.returncode:
+        return outcomes + skipped("the recorder: a small disk", lacking.stdout.decode("utf-8", "replace").strip())
+    try:
+        return [*outcomes, filled(program, at, [], ["places", "40960"])]
+    finally:
+        subprocess.run(["umount", at])
+
+
 def many_names(path: str) -> None:
     for at in range(MOST_NAMES + 10):
         os.close(os.open(os.path.join(path, "{:x}".format(at)), os.O_CREAT | os.O_WRONLY, 0o644))
@@ -340,5 +386,5 @@ def part(run: Callable[[Program], List[Outcome]], programs: List[Program]) -> Li
 
 def jobs(programs: List[Program]) -> List[Job]:
     options = ([], ["--wait"], ["--drain"], [*VERSION_2, "--nop"], [*VERSION_2, "--wait", "--drain", "--nop"])
-    runs = [limits, at_once, *(partial(bad, words=it) for it in options), rings, harmless, interrupted, unreadable, outputs, touched]
+    runs = [limits, full_disks, at_once, *(partial(bad, words=it) for it in options), rings, harmless, interrupted, unreadable, outputs, touched]
     return [partial(part, it, programs) for it in runs]

@@ -3,12 +3,8 @@
 #include "given.h"
 #include "start.h"
 
-#include <errno.h>
-#include <fcntl.h>
-#include <signal.h>
 #include <stdlib.h>
 #include <string.h>
-#include <unistd.h>
 
 /* Bytes are given to the file when there are so many. Version 3 cuts a record where a chain ends
  * behind so many bytes. A write of so many zeros has a short form there. */
@@ -18,55 +14,23 @@ enum { BUFFER = 1 << 20, ENOUGH = 1 << 22, LEAST_ZEROS = 64, MOST_LENGTHS = 1024
 enum { BESIDE = 69, RECORD_HEAD = 7 };
 enum form { FORM_STORED = 0, FORM_ZEROS = 1, FORM_GIVEN = 2, FORM_REFUSED = 3 };
 
-static int file = -1;
+static struct sink file = { .descriptor = -1 };
 static bool is_counting;
-static u8 buffer[BUFFER];
-static u64 used, written;
+static u64 written;
 
 void open_trace(void)
 {
-	/* (a reader that goes away is a fault of the recorder's, with its status) */
-	signal(SIGPIPE, SIG_IGN);
-	do {
-		file = strcmp(options.trace, "-")
-			       ? open(options.trace, O_WRONLY | O_CREAT | O_TRUNC | O_CLOEXEC, 0666)
-			       : STDOUT_FILENO;
-	} while (file < 0 && errno == EINTR);
-	if (file < 0)
-		die("%s: %s", options.trace, strerror(errno));
+	open_sink(&file, options.trace);
 }
 
 bool is_trace_open(void)
 {
-	return file >= 0;
+	return file.descriptor >= 0;
 }
 
-/* Gives bytes to the file. */
-static void write_out(const u8 *bytes, u64 length)
+struct sink *trace_file(void)
 {
-	ssize_t moved;
-
-	for (u64 at = 0; at < length; at += (u64)moved) {
-		moved = write(file, bytes + at, length - at);
-		if (moved < 0 && errno == EINTR)
-			moved = 0;
-		if (moved < 0)
-			die("%s: %s", options.trace, strerror(errno));
-	}
-}
-
-void flush_trace(void)
-{
-	write_out(buffer, used);
-	used = 0;
-}
-
-void close_trace(void)
-{
-	flush_trace();
-	if (close(file))
-		die("%s: %s", options.trace, strerror(errno));
-	file = -1;
+	return &file;
 }
 
 u64 bytes_put(void)
@@ -74,24 +38,24 @@ u64 bytes_put(void)
 	return written;
 }
 
-void count_anew(void)
+void count_from(u64 bytes)
 {
-	written = 0;
+	written = bytes;
+}
+
+void count_only(bool is_on)
+{
+	is_counting = is_on;
 }
 
 void put(const void *bytes, u64 length)
 {
 	written += length;
-	if (file < 0 || is_counting)
+	if (file.descriptor < 0 || is_counting)
 		return;
-	if (used + length > BUFFER)
-		flush_trace();
-	if (length > BUFFER) {
-		write_out(bytes, length);
-	} else if (length) {
-		memcpy(buffer + used, bytes, length);
-		used += length;
-	}
+	if (file.used + length > BUFFER)
+		flush_sink(&file);
+	put_into(&file, bytes, length);
 }
 
 void put_zeros(u64 length)

@@ -2,19 +2,20 @@
 #ifndef ENCODE_H
 #define ENCODE_H
 
+#include "sink.h"
 #include "trace.h"
 
 /* Opens the trace's file, or standard output for "-". Until then, bytes are counted and not kept.
  */
 void open_trace(void);
-/* Whether it is open. */
+/* Whether it is open, and the file. */
 bool is_trace_open(void);
-/* Gives the file all bytes that were put. */
-void flush_trace(void);
-void close_trace(void);
-/* How many bytes were put; from now on these are counted anew. */
+struct sink *trace_file(void);
+/* How many bytes were put, and a count to go on from. */
 u64 bytes_put(void);
-void count_anew(void);
+void count_from(u64 bytes);
+/* Whether bytes are counted alone from here on. */
+void count_only(bool is_on);
 
 void put(const void *bytes, u64 length);
 void put_zeros(u64 length);

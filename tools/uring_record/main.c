@@ -187,20 +187,18 @@ static bool take_option(int letter, int *status)
 /* Writes a trace of version 1 or 2, and its results. */
 static void write_as_whole(const struct final_tree *tree)
 {
-	number_places();
-	u64 bytes = write_trace(), places = number_places();
+	u64 bytes = write_both(tree), places = number_places();
+
 	for (u64 at = 0; at < trace.record_count; at++)
 		count_outside(trace.records[at]);
-	write_results(tree);
 	summary(places, bytes, ring_count);
 }
 
 /* Writes what is left of a trace of version 3, and of its results. */
 static void end_as_stream(const struct final_tree *tree)
 {
-	u64 bytes = end_stream();
+	u64 bytes = end_stream(tree);
 
-	close_results(tree);
 	summary(trace.gone_places, bytes, trace.ring_numbers);
 }
 

@@ -1,5 +1,6 @@
 #include "output.h"
 #include "encode.h"
+#include "notes.h"
 #include "rings.h"
 
 #include <errno.h>
@@ -97,7 +98,7 @@ void put_descriptions(bool has_root)
 		put_description(&root);
 }
 
-/* Writes the trace, or counts its bytes where there is no file. */
+/* Puts the trace, or counts its bytes. */
 static void put_trace(void)
 {
 	bool has_root = trace.uses_table && has_taken_numbers();
@@ -105,7 +106,7 @@ static void put_trace(void)
 
 	for (u64 at = 0; at < trace.record_count; at++)
 		records += !is_empty(trace.records[at]);
-	count_anew();
+	count_from(0);
 	put("URINGTRC", 8);
 	put_number(trace.uses_table ? 2 : 1, 4);
 	put_number(trace.item_count, 4);
@@ -128,7 +129,9 @@ static void put_trace(void)
  * them. */
 static void keep_limit(void)
 {
+	count_only(true);
 	put_trace();
+	count_only(false);
 	u64 over = bytes_put() > options.limit ? bytes_put() - options.limit : 0;
 	if (over)
 		end_recording("the trace has as many bytes as it may have");
@@ -136,13 +139,70 @@ static void keep_limit(void)
 		over -= min64(over, size_of_record(trace.records[--trace.record_count]));
 }
 
-u64 write_trace(void)
+void end_for(const struct sink *file)
+{
+	char why[PATH_MAX + 128];
+
+	snprintf(why, sizeof why, "%s: %s", file->path, strerror(file->error));
+	end_recording(why);
+}
+
+void note_no_room(void)
+{
+	note("there is no room for the start: the trace and the results are empty", NULL);
+}
+
+/* Writes the trace, with as many records as its file takes; false where that has no room for one
+ * without any. */
+static bool put_into_file(struct sink *file)
+{
+	for (;;) {
+		keep_limit();
+		put_trace();
+		flush_sink(file);
+		if (!file->error)
+			return true;
+		end_for(file);
+		options.limit = file->length;
+		bool has_records = trace.record_count;
+		if (!empty_sink(file) || !has_records)
+			return false;
+	}
+}
+
+/* Writes the results; where their file takes no more, a few records are taken away, and the trace
+ * is to be written anew. */
+static bool put_results(const struct final_tree *tree)
+{
+	struct sink *file = results_file();
+
+	number_places();
+	write_results(trace.is_ended ? NULL : tree);
+	if (!file->error)
+		return true;
+	end_for(file);
+	if (!empty_sink(file) || !trace.record_count || !empty_sink(trace_file()))
+		return true; /* (they are left out) */
+	trace.record_count -= trace.record_count / 4 + 1;
+	close_sink(file);
+	return false;
+}
+
+u64 write_both(const struct final_tree *tree)
 {
 	if (!trace.uses_table)
 		trace.table_size = 0;
-	keep_limit();
 	open_trace();
-	put_trace();
-	close_trace();
-	return bytes_put();
+	bool is_there = put_into_file(trace_file());
+	while (is_there && !put_results(tree))
+		is_there = put_into_file(trace_file());
+	if (!is_there) {
+		note_no_room();
+		open_results();
+		end_results(NULL);
+		empty_sink(results_file());
+	}
+	close_sink(trace_file());
+	close_sink(results_file());
+	return trace_file()->length;
 }

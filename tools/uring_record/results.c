@@ -16,9 +16,13 @@
 #include <sys/stat.h>
 #include <unistd.h>
 
-enum { MOST_SUMMED = 16777216, CHUNK = 1 << 16 };
+enum { MOST_SUMMED = 16777216, CHUNK = 1 << 16, MUCH = 1 << 20 };
 
+/* What is printed goes to the file of the results: as the command runs, not before the records of
+ * the trace. */
 static FILE *file;
+static struct sink results = { .descriptor = -1 };
+static bool waits_for_trace;
 
 /* A name of the tree at the end. */
 struct name {
@@ -295,34 +299,54 @@ static void write_entries(void)
 	free(by_ring);
 }
 
+/* Puts what was printed into the file. */
+static ssize_t take_printed(void *of, const char *bytes, size_t length)
+{
+	struct sink *sink = of;
+
+	if (sink->used > MUCH && !waits_for_trace)
+		flush_sink(sink);
+	put_into(sink, bytes, length);
+	return (ssize_t)length;
+}
+
 void open_results(void)
 {
-	file = options.results ? fopen(options.results, "wbe") : NULL;
-	if (options.results && !file)
-		die("%s: %s", options.results, strerror(errno));
-	if (file)
-		fprintf(file, "uring-report %d\n", options.format == 3 ? 2 : 1);
+	cookie_io_functions_t printed = { .write = take_printed };
+
+	if (!options.results)
+		return;
+	open_sink(&results, strcmp(options.results, "-") ? options.results : "./-");
+	waits_for_trace = options.format == 3;
+	file = fopencookie(&results, "w", printed);
+	if (!file)
+		die("there is no more memory");
+	fprintf(file, "uring-report %d\n", options.format == 3 ? 2 : 1);
 }
 
-void flush_results(void)
+struct sink *results_file(void)
 {
-	while (file && fflush(file)) {
-		if (errno == EINTR)
-			continue;
-		die("%s: %s", options.results, strerror(errno));
-	}
+	return &results;
 }
 
-void close_results(const struct final_tree *tree)
+u64 results_put(void)
+{
+	if (file)
+		fflush(file);
+	return results.length + results.used;
+}
+
+void end_results(const struct final_tree *tree)
 {
 	if (!file)
 		return;
+	waits_for_trace = false;
 	if (tree)
 		write_tree(tree);
-	fputs("end\n", file);
-	if (ferror(file) | fclose(file))
-		die("%s: %s", options.results, strerror(errno));
+	fputs(RESULTS_END, file);
+	fclose(file);
 	file = NULL;
+	flush_sink(&results);
 }
 
 void write_results(const struct final_tree *tree)
@@ -330,5 +354,5 @@ void write_results(const struct final_tree *tree)
 	open_results();
 	if (file)
 		write_entries();
-	close_results(tree);
+	end_results(tree);
 }

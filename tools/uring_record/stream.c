@@ -18,6 +18,102 @@ static u64 put_count, told_count;
 /* Nothing more is put: the trace is at its limit. */
 static bool is_full;
 
+/* How far the trace and the results go behind so many records: there both are cut where one of
+ * their files takes no more. There is one behind each record that is put, the first of them behind
+ * what both files have, and one before that. */
+struct mark {
+	u64 records, trace, places, results;
+	bool is_told; /* the results are known */
+};
+static struct mark *marks;
+static u64 mark_count, mark_room;
+
+/* Adds the mark behind the last record. */
+static void add_mark(void)
+{
+	GROW(marks, mark_count, mark_room);
+	marks[mark_count++] =
+		(struct mark){ .records = trace.gone + put_count, .trace = bytes_put() };
+}
+
+/* The results of all records up to the next one are known. */
+static void tell_mark(u64 records)
+{
+	struct mark *mark = &marks[records - marks->records];
+
+	mark->results = results_put();
+	mark->places = trace.gone_places;
+	mark->is_told = true;
+}
+
+/* Forgets marks before those that both files have. */
+static void forget_marks(void)
+{
+	u64 gone = 0;
+
+	while (gone + 2 < mark_count && marks[gone + 2].is_told)
+		gone++;
+	mark_count -= gone;
+	if (gone)
+		memmove(marks, marks + gone, mark_count * sizeof *marks);
+}
+
+/* Takes away what is kept behind a mark. */
+static void cut_records(const struct mark *mark)
+{
+	for (u64 at = told_count; at < put_count; at++) {
+		if (trace.gone + at >= mark->records)
+			trace.records[at]->is_put = false;
+	}
+	if (mark->is_told)
+		trace.gone_places = mark->places;
+	count_from(mark->trace + 1);
+}
+
+/* Cuts the files behind a mark; false where that cannot be. */
+static bool cut_files(const struct mark *mark)
+{
+	static const char trace_end = RECORD_END;
+	struct sink *records = trace_file(), *results = results_file();
+	bool ends_results = results->error || results->is_over;
+
+	if ((ends_results && !mark->is_told) || mark->trace > records->length ||
+	    (ends_results && !end_sink(results, mark->results, RESULTS_END, strlen(RESULTS_END))))
+		return false;
+	/* (what has gone through a pipe stays) */
+	if ((records->error || records->base >= 0) &&
+	    !end_sink(records, mark->trace, &trace_end, sizeof trace_end))
+		return false;
+	if (!ends_results && mark->is_told)
+		shorten_sink(results, mark->results);
+	cut_records(mark);
+	return true;
+}
+
+/* Where a file takes no more, both are cut behind the last record that both can have, and the
+ * recording ends. */
+static void look_at_files(void)
+{
+	struct sink *records = trace_file(), *results = results_file();
+
+	if (!(records->error && !records->is_over) && !(results->error && !results->is_over))
+		return;
+	end_for(records->error && !records->is_over ? records : results);
+	is_full = true;
+	while (mark_count && !cut_files(&marks[mark_count - 1]))
+		mark_count--;
+	if (mark_count)
+		return;
+	note_no_room();
+	for (u64 at = told_count; at < put_count; at++)
+		trace.records[at]->is_put = false;
+	empty_sink(records);
+	empty_sink(results);
+	records->is_over = results->is_over = true;
+	trace.gone_places = 0;
+	count_from(0);
+}
+
 /* The descriptor table: its full numbers. */
 static void put_table(void)
 {
@@ -66,12 +162,15 @@ void begin_stream(void)
 	put_number(trace.table_size, 4);
 	put_number(count_full(), 4);
 	put_number(0, 4);
-	for (u64 at = 0; at < trace.item_count; at++)
+	for (u64 at = 0; at < trace.item_count && !trace_file()->error; at++)
 		put_name(&trace.items[at]);
 	put_descriptions(has_root);
 	put_table();
-	flush_trace();
-	flush_results();
+	flush_stream();
+	if (trace_file()->is_over)
+		return;
+	add_mark();
+	tell_mark(0);
 }
 
 /* Whether a call that has not ended has left nothing in its queue. */
@@ -135,6 +234,7 @@ static void put_next(void)
 		return;
 	put_record(record);
 	record->is_put = true;
+	add_mark();
 	for (u32 at = 0; at < record->count; at++) {
 		struct entry *entry = &record->entries[at];
 		if (!entry->is_landed)
@@ -155,6 +255,7 @@ static void tell_next(void)
 		write_results_of(record);
 		count_outside(record);
 		trace.gone_places = behind;
+		tell_mark(trace.gone + told_count + 1);
 	}
 	told_count++;
 	for (u32 at = 0; at < record->count; at++)
@@ -248,6 +349,7 @@ static void write_records(bool all)
 		put_next();
 	while (told_count < put_count && (all || is_told_now(trace.records[told_count])))
 		tell_next();
+	look_at_files();
 	if (put_count + told_count != before)
 		shift_records();
 }
@@ -260,16 +362,22 @@ void write_known(void)
 
 void flush_stream(void)
 {
-	if (!is_trace_open())
-		return;
-	flush_trace();
-	flush_results();
+	flush_sink(trace_file());
+	if (!trace_file()->error)
+		flush_sink(results_file());
+	look_at_files();
+	forget_marks();
 }
 
-u64 end_stream(void)
+u64 end_stream(const struct final_tree *tree)
 {
 	write_records(true);
-	put_number(RECORD_END, 1);
-	close_trace();
+	if (!trace_file()->is_over)
+		put_number(RECORD_END, 1);
+	flush_stream();
+	end_results(trace.is_ended ? NULL : tree);
+	look_at_files();
+	close_sink(trace_file());
+	close_sink(results_file());
 	return bytes_put();
 }

@@ -12,7 +12,9 @@ void begin_stream(void);
 void write_known(void);
 /* Gives the files what was written. */
 void flush_stream(void);
-/* Writes the rest, and ends the trace; gives how many bytes it has. */
-u64 end_stream(void);
+/* Writes the rest, and ends the trace and the results, which have a tree or not; gives how many
+ * bytes the trace has. */
+struct final_tree;
+u64 end_stream(const struct final_tree *tree);
 
 #endif

@@ -892,13 +892,14 @@ int run_command(char **words, bool *has_run)
 		make_postponed_calls();
 		let_children_begin();
 		pid_t id = waitpid(-1, &status, __WALL);
+		bool was_interrupted = id < 0 && errno == EINTR;
 		u64 signal_to_pass = 0;
 		int ending = has_ticked() ? at_tick() : 0;
 		if (ending) {
 			end_command();
 			return 128 + ending;
 		}
-		if (id < 0 && errno == EINTR)
+		if (was_interrupted)
 			continue;
 		if (id < 0)
 			return code;
