@@ -65,7 +65,7 @@ def report_in(trace: bytes, order: Sequence[int]) -> bytes:
     """The report where the places run in this order."""
     world = model_records.world_of(trace)
     places = model_depends.places_of(world)
-    return report_of(world, {it: run_step(world, places[it].chain, places[it].at) for it in order})
+    return report_of(world, {it: run_step(world, places[it].chain, places[it].at) for it in order}, True)
 
 
 def by_chains(trace: bytes, waits: Waits, source: random.Random) -> List[int]:

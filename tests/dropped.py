@@ -72,7 +72,7 @@ def kept_by_model(trace: bytes) -> Tuple[int, Answer]:
                 gone = made - left.there
                 room = left.there + max(left.size, MADE)
         replies.update({chain.first + at: model.run_step(world, chain, at) for at in range(len(chain.steps))})
-    return times, Answer(0, model.report_of(world, replies), b"")
+    return times, Answer(0, model.report_of(world, replies, True), b"")
 
 
 # --- Drawn traces that make much ------------------------------------------------------------------------------------

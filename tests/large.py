@@ -77,7 +77,8 @@ def tried(program: Program) -> List[Outcome]:
         for name in names:
             for words, ending in MODES:
                 if os.path.exists(name + ".refused"):
-                    wanted = Answer(1, b"", read(name + ".refused"))
+                    has_lines = words != ["check"] and os.path.exists(name + ".lines")
+                    wanted = Answer(1, read(name + ".lines") if has_lines else b"", read(name + ".refused"))
                 else:
                     wanted = Answer(0, read(name + ending), b"")
                 label = "{} {} by {}".format(os.path.basename(name), spoken(words), program.compiler)

@@ -118,7 +118,7 @@ class Entry(NamedTuple):
     personality: int
     file_index: int
     side: bytes
-    is_zeros: bool = False
+    is_zeros: bool
     given: Optional[Given] = None
 
     def vectors(self) -> List[int]:
@@ -801,12 +801,12 @@ def replies_by_turns(world: World) -> Dict[int, Reply]:
     return {chain.first + at: run_step(world, chain, at) for chain in world.chains for at in range(len(chain.steps))}
 
 
-def report_by_turns(world: World, has_sums: bool = True) -> bytes:
+def report_by_turns(world: World, has_sums: bool) -> bytes:
     """The report of a world where no place has run."""
     return report_of(world, replies_by_turns(world), has_sums)
 
 
-def report_of(world: World, replies: Dict[int, Reply], has_sums: bool = True) -> bytes:
+def report_of(world: World, replies: Dict[int, Reply], has_sums: bool) -> bytes:
     """The report of a world in which every place has run, and of their replies."""
     whole = lines_in_order(world, replies) if world.version == 3 else lines_by_ring(world, replies)
     whole += ["tree", *(world.tree_line(path, node, has_sums) for path, node in sorted(world.paths()))]

@@ -14,12 +14,12 @@ ENTRIES, FILL, SET, SEEK, RING, RING_ENDS, END = range(1, 8)
 
 
 class Records(World):
-    """A trace of version 3. Its rings are there from the start on, with empty slots, and are used from their places on."""
+    """A trace that begins as one of version 3. Its rings are there from the start on, with empty slots, and are used from their places on."""
 
     def __init__(self, text: bytes) -> None:
         self.source = source = Reader(text)
-        within(source.take(8) == b"URINGTRC", "Magic", 0)
-        self.version = source.number("I", 3, 3, "Version")
+        source.take(len(BEGINNING))
+        self.version = 3
         self.items, self.described = self.number(MOST_ITEMS), self.number(MOST_NUMBERS)
         size = self.number(MOST_NUMBERS)
         full = self.number(size)
@@ -206,7 +206,7 @@ def lines_before(text: bytes) -> bytes:
     return "\n".join([*model.lines_in_order(world, model.replies_by_turns(world)), ""]).encode()
 
 
-def cut_off(text: bytes, has_sums: bool = True) -> Tuple[bytes, int]:
+def cut_off(text: bytes, has_sums: bool) -> Tuple[bytes, int]:
     """The report of a trace of version 3 that ends too early behind its start, taken as one that ends behind its last whole record; and where that ends."""
     at, _ = Begun(text).ends[-1]
     return report(text[:at] + bytes([END]), has_sums), at
