@@ -15,14 +15,15 @@ import recorder
 from harness import TOP, Answer, Job, Outcome, Program, first, say, shown, skipped, spoken
 from recorded import SHARED, SOURCES, UNTRIED, Tools, lacking_in_system, ran_in, read_file
 
-# Each mode of marks.c: in version 2 why entries are outside, in version 3 why they are given or outside, and how many lines of entries are equal there
-# at least.
+# Each mode of marks.c, or of ordinary.c: in version 2 why entries are outside, in version 3 why they are given or outside, and how many lines of entries
+# are equal there at least.
 class Mode(NamedTuple):
     name: str
     marks: Sequence[str] = ()
     given: Sequence[str] = ()
     marks_of_3: Sequence[str] = ()
     equal: int = 1
+    program: str = "marks"
 
 
 MODES = (
@@ -47,6 +48,17 @@ MODES = (
     # (what these wrote is in their file)
     Mode("written_late", equal=9),
     Mode("written_away", ["late"], marks_of_3=["late"], equal=3),
+    Mode("paths", equal=25, program="ordinary"),
+    Mode("appends", equal=22, program="ordinary"),
+    Mode("by_process", ["changed"], marks_of_3=["changed"], equal=14, program="ordinary"),
+    Mode("by_handle", equal=5, program="ordinary"),
+    Mode("made", equal=12, program="ordinary"),
+    Mode("named_late", ["descriptor", "path"], ["descriptor"], ["path"], 3, "ordinary"),
+    Mode("ranges", ["changed"], marks_of_3=["changed"], equal=5, program="ordinary"),
+    Mode("clears", ["changed"], marks_of_3=["changed"], program="ordinary"),
+    Mode("clones", ["changed"], marks_of_3=["changed"], equal=4, program="ordinary"),
+    Mode("submits", ["changed"], marks_of_3=["changed"], program="ordinary"),
+    Mode("own_names", ["changed"], marks_of_3=["changed"], equal=3, program="ordinary"),
 )
 VERSION_2 = ["--format", "2"]
 OPTIONS: Sequence[Sequence[str]] = ([], ["--drain"], ["--wait"], VERSION_2, [*VERSION_2, "--nop"], ["--version-1"])
@@ -99,7 +111,7 @@ def equal_entries(compared: Answer) -> int:
 def mode(tools: Tools, program: Program, mode: Mode, words: Sequence[str]) -> Outcome:
     """One program: nothing differs, what is said to be outside is, and what is told stays told."""
     label = "marks: {}, {}".format(mode.name, spoken(words))
-    made = record(tools, program, mode.name + "".join(words), words, [tools.file("marks"), mode.name])
+    made = record(tools, program, mode.name + "".join(words), words, [tools.file(mode.program), mode.name])
     if made.got.status == UNTRIED:
         return Outcome(label, skipped=made.got.errors.decode("utf-8", "replace").split("\n")[0])
     if made.got.status or made.compared.status:
@@ -119,6 +131,33 @@ def mode(tools: Tools, program: Program, mode: Mode, words: Sequence[str]) -> Ou
 
 def entry_lines(kernel: str) -> List[str]:
     return [it for it in kernel.split("\n") if it[:1].isdigit()]
+
+
+# What a shell and git do to a tree behind one read of a ring.
+SCRIPT = """set -e
+"$0" reads
+git init -q .
+git config user.email a@b && git config user.name a && git config gc.auto 0
+mkdir -p src/sub/ && echo text > src/a && cp src/a src/sub/b && mv src/sub/ src/other/ && mkdir none/ && rmdir none/
+git add . && git commit -qm one && echo more >> src/a && git commit -qam two && git branch -q side && git checkout -q side
+git mv src/a src/c && git commit -qm three && git checkout -q - && git merge -q side && git tag -a -m tag v1 && git gc -q && git prune
+cd src && ln ../src/c ../d && rm -rf ../src/other/ && cd ..
+cp -r src copy/ && mv copy/ moved/ && rm -rf src/
+"""
+
+
+def shell_and_git(tools: Tools, program: Program) -> List[Outcome]:
+    """Many ordinary calls: all of them are told, and nothing differs."""
+    outcomes = []
+    for words in ([], VERSION_2):
+        label = "marks: a shell and git, {}".format(spoken(words))
+        if not shutil.which("git"):
+            outcomes += skipped(label, "there is no git")
+            continue
+        made = record(tools, program, "git" + "".join(words), words, ["sh", "-c", SCRIPT, tools.file("ordinary")])
+        fault = None if not made.got.status and not made.compared.status and " outside=" not in made.kernel else "{}; diff: {}".format(shown(made.got), shown(made.compared))
+        outcomes.append(Outcome(label, fault or (None if equal_entries(made.compared) > 200 else "few entries are equal: {}".format(shown(made.compared)))))
+    return outcomes
 
 
 def facts(tools: Tools) -> List[Outcome]:
@@ -257,7 +296,7 @@ def cost(tools: Tools) -> List[Outcome]:
 
 def marked(programs: List[Program]) -> List[Outcome]:
     tools = Tools()
-    lacking = tools.lacking() or build(tools, ("marks", "stops", "submitter"))
+    lacking = tools.lacking() or build(tools, ("marks", "ordinary", "stops", "submitter"))
     if lacking:
         return skipped("the recorder's marks", lacking)
     outcomes = [all_sums(tools)]
@@ -267,7 +306,7 @@ def marked(programs: List[Program]) -> List[Outcome]:
     program = programs[0]
     for words in OPTIONS:
         outcomes += [mode(tools, program, it, words) for it in MODES]
-    return [*outcomes, *facts(tools), seldom_told(tools), plot(tools), *cost(tools)]
+    return [*outcomes, *shell_and_git(tools, program), *facts(tools), seldom_told(tools), plot(tools), *cost(tools)]
 
 
 def jobs(programs: List[Program]) -> List[Job]:

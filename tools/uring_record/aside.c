@@ -112,12 +112,12 @@ static void look_at_openat2(struct flight *flight, pid_t thread)
 	const struct io_uring_sqe *sqe = &flight->asked_for;
 	struct open_how how = { 0 };
 	char *text = fetch_text(thread, sqe->addr);
-
 	u64 size = min64(sizeof how, sqe->len);
+	bool is_known;
 
 	fetch(thread, sqe->off, &how, size);
 	flight->open_flags = (u32)how.flags;
-	flight->names[0] = text ? canonical_path(flight->process, sqe->fd, text) : NULL;
+	flight->names[0] = text ? canonical_path(flight->process, sqe->fd, text, &is_known) : NULL;
 	free(text);
 	take_outside_slot(flight, sqe->file_index,
 			  flight->names[0] ? new_direct(flight->names[0], flight->open_flags)

@@ -13,6 +13,8 @@
 #include "table.h"
 
 #include <fcntl.h>
+#include <linux/aio_abi.h>
+#include <linux/fs.h>
 #include <linux/openat2.h>
 #include <stdlib.h>
 #include <string.h>
@@ -21,13 +23,16 @@
 #include <unistd.h>
 
 /* A call, and which of its arguments are the file that it changes, names and the directories that
- * they start from, and flags (or none). */
+ * they start from, and flags (or none). Of one without a file or a name `ended` says what it
+ * changes. */
 struct kind {
 	long number;
 	void (*ended)(struct call *call, i64 result);
 	signed char file, directory, path, other_directory, other, flags;
 };
 enum { NONE = -1 };
+/* What newer kernels have, and the most that io_submit(2) takes. */
+enum { WRITE_ZEROES = 0x80, MOST_SUBMITTED = 65536 };
 
 static const struct kind *kind_of(long number);
 
@@ -86,7 +91,7 @@ static bool open_our_slot(int copy)
 {
 	struct opened **slot = &our_ring()->now[0];
 
-	if (*slot && is_same((*slot)->descriptor, copy))
+	if (*slot && is_same((*slot)->descriptor, copy) && !has_other_append(*slot))
 		return true;
 	struct opened *opened = open_ours(copy);
 	if (opened) {
@@ -96,18 +101,24 @@ static bool open_our_slot(int copy)
 	return opened;
 }
 
-/* A change of a file that no path leads to is only noted: its bytes are not told from here on. */
-static void note_nameless(const struct opened *file)
+/* A change of a file that has no entry: it is noted, and the bytes of the file are not told from
+ * here on. `is_nameless` says that it is one of a file that no path leads to. */
+static void leave_change(const struct opened *file, const char *what, bool is_nameless)
 {
 	char *target = descriptor_target(getpid(), file->descriptor);
 	char *inside = target ? inside_root(target) : NULL;
 
-	if (inside && is_deleted(target)) {
-		note("an ordinary call that changes a file without a name is left out", NULL);
+	if (inside && (!is_nameless || is_deleted(target))) {
+		note(what, NULL);
 		unsettle(file, OUTSIDE_CHANGED);
 	}
 	free(target);
 	free(inside);
+}
+
+static void note_nameless(const struct opened *file)
+{
+	leave_change(file, "an ordinary call that changes a file without a name is left out", true);
 }
 
 /* Adds an entry for a call on a descriptor: on the same number where the table has it, else on the
@@ -118,7 +129,8 @@ static void add_on_file(struct call *call, struct io_uring_sqe *sqe, bool moves,
 	int file = kind_of(call->number)->file, copy = call->flight->used->descriptor;
 	bool has_table = file != NONE && options.format != 1 && call->process == home_process();
 	struct opened *opened = has_table ? opened_at((int)call->arguments[file]) : NULL;
-	bool is_there = opened && !opened->is_unsure && is_same(opened->descriptor, copy);
+	bool is_there = opened && !opened->is_unsure && is_same(opened->descriptor, copy) &&
+			!has_other_append(opened);
 	bool has_number = is_there && (trace.uses_table || options.format == 3);
 
 	if (!has_number && open_our_slot(copy)) {
@@ -144,10 +156,12 @@ static void add_on_file(struct call *call, struct io_uring_sqe *sqe, bool moves,
 	}
 }
 
-/* Whether the file of a call is open for appending. */
+/* Whether a write goes to the end of its file. */
 static bool is_append(const struct call *call)
 {
-	return call->flight->used->appends;
+	u64 flags = call->number == SYS_pwritev2 ? call->arguments[5] : 0;
+
+	return flags & RWF_APPEND || (call->flight->used->appends && !(flags & RWF_NOAPPEND));
 }
 
 /* Whether a write is at the position. */
@@ -211,7 +225,38 @@ static void ended_fallocate(struct call *call, i64 result)
 				    .addr = arguments[3] };
 
 	sqe.len = (u32)arguments[1];
+	if (sqe.len & (FALLOC_FL_COLLAPSE_RANGE | FALLOC_FL_INSERT_RANGE)) {
+		leave_change(call->flight->used,
+			     "fallocate(2) that takes a range out or puts one in is left out",
+			     false);
+		return;
+	}
+	/* (the replay has no shared blocks, and its zeros are as good as written ones) */
+	sqe.len &= ~(u32)FALLOC_FL_UNSHARE_RANGE;
+	if (sqe.len & WRITE_ZEROES)
+		sqe.len = FALLOC_FL_ZERO_RANGE;
 	add_on_file(call, &sqe, false, NULL, 0, (i32)result);
+}
+
+/* ioctl(2) that changes a file. */
+static void ended_ioctl(struct call *call, i64 result)
+{
+	(void)result;
+	leave_change(call->flight->used, "ioctl(2) that changes a file is left out", false);
+}
+
+/* Whether fcntl(2) is to change O_APPEND of a file. */
+static bool changes_append(const struct call *call, int copy)
+{
+	return (fcntl(copy, F_GETFL) ^ (int)call->arguments[2]) & O_APPEND;
+}
+
+/* fcntl(2): what is open for appending, and what is not. */
+static void ended_fcntl(struct call *call, i64 result)
+{
+	(void)call;
+	(void)result;
+	appends_changed();
 }
 
 /* copy_file_range(2), sendfile(2), splice(2): what came is read back. */
@@ -257,6 +302,7 @@ static void touch_changed(struct call *call)
 
 static void ended_open(struct call *call, i64 result);
 static void ended_truncate(struct call *call, i64 result);
+static void ended_link(struct call *call, i64 result);
 
 /* Whether a call that makes, moves or takes away a name finds there what the trace may have: a link
  * is in no trace. Links on the way to it are gone through. */
@@ -268,21 +314,100 @@ static bool is_in_trace(const struct call *call, char **name)
 	return look_through(name, is_open || cuts) != NAME_LINK || is_open;
 }
 
+/* Whether a call goes on to what a link at the end of its first path leads to. */
+static bool follows_last(const struct call *call)
+{
+	void (*ended)(struct call *, i64) = kind_of(call->number)->ended;
+
+	return ended == ended_open || ended == ended_truncate ||
+	       (ended == ended_link && flags_of(call) & AT_SYMLINK_FOLLOW);
+}
+
+/* Whether a call gives another name to what is open at a number. */
+static bool links_opened(const struct call *call)
+{
+	return kind_of(call->number)->ended == ended_link && flags_of(call) & AT_EMPTY_PATH;
+}
+
+/* The name in the tree of what is open at a number, in memory of its own, or NULL. */
+static char *name_of_opened(pid_t process, int number)
+{
+	int copy = copy_descriptor(process, number);
+	char *name = copy < 0 ? NULL : name_of(copy);
+
+	if (copy >= 0)
+		close(copy);
+	return name;
+}
+
 /* A name of a call as the trace has it, in memory of its own, or NULL where it is not below the
- * root. */
-static char *name_in_tree(const struct call *call, int directory, int argument)
+ * root, or not known. */
+static char *name_in_tree(const struct call *call, int directory, int argument, bool *is_known)
 {
 	int from = directory == NONE ? AT_FDCWD : (int)call->arguments[directory];
 	char *path = argument == NONE ? NULL : fetch_text(call->thread, call->arguments[argument]);
-	bool is_known;
-	char *name = path ? translate(call->process, from, path, &is_known) : NULL;
+	bool is_first = argument == kind_of(call->number)->path;
 
-	free(path);
-	if (name && (!has_parent(name) || !is_in_trace(call, &name))) {
+	*is_known = true;
+	if (path && !*path && is_first && links_opened(call)) {
+		free(path);
+		return name_of_opened(call->process, from);
+	}
+	char *name = path ? canonical_path(call->process, from, path, is_known) : NULL;
+	if (name && !is_in_trace(call, &name)) {
 		free(name);
 		name = NULL;
 	}
+	if (!name && path && is_first && follows_last(call))
+		name = followed_path(call->process, from, path);
+	free(path);
 	return name;
+}
+
+/* Finds the names of a call; false where one of them is not known. */
+static bool find_names(const struct call *call, char **names)
+{
+	const struct kind *kind = kind_of(call->number);
+	bool is_known, is_other_known;
+
+	names[0] = name_in_tree(call, kind->directory, kind->path, &is_known);
+	names[1] = name_in_tree(call, kind->other_directory, kind->other, &is_other_known);
+	return is_known && is_other_known;
+}
+
+/* Whether a name of a call is on a device where the tree has nothing, or is none. */
+static bool is_on_other_device(const struct call *call, int directory, int argument)
+{
+	int from = directory == NONE ? AT_FDCWD : (int)call->arguments[directory];
+	char *path = argument == NONE ? NULL : fetch_text(call->thread, call->arguments[argument]);
+	dev_t device;
+	bool is_other =
+		argument == NONE ||
+		(path && device_of(call->process, from, path, &device) && !knows_device(device));
+
+	free(path);
+	return is_other;
+}
+
+/* A call by a name that was not known has changed something: where the names are known now, it is
+ * not told what is there, and else it may be anywhere. */
+static void leave_unknown(const struct call *call)
+{
+	static const char text[] = "an ordinary call by a name that is not known is left out";
+	const struct kind *kind = kind_of(call->number);
+	char *names[2];
+	bool is_known = find_names(call, names);
+
+	if (is_known && (names[0] || names[1]))
+		note(text, NULL);
+	else if (!is_known && !(is_on_other_device(call, kind->directory, kind->path) &&
+				is_on_other_device(call, kind->other_directory, kind->other)))
+		lose(text);
+	for (int at = 0; at < 2; at++) {
+		if (names[at])
+			doubt_name((const u8 *)names[at], (u32)strlen(names[at]), OUTSIDE_PATH);
+		free(names[at]);
+	}
 }
 
 /* unlink(2), rmdir(2), unlinkat(2). */
@@ -328,7 +453,8 @@ static void add_two_names(struct call *call, u8 opcode, u32 flags)
 /* rename(2), renameat(2), renameat2(2). */
 static void ended_rename(struct call *call, i64 result)
 {
-	u32 flags = flags_of(call);
+	/* (the device that a whiteout leaves is in no trace) */
+	u32 flags = flags_of(call) & ~(u32)RENAME_WHITEOUT;
 
 	(void)result;
 	if (flags & RENAME_EXCHANGE && options.format != 1)
@@ -343,45 +469,97 @@ static void ended_link(struct call *call, i64 result)
 	add_two_names(call, OP_LINKAT, 0);
 }
 
-/* symlink(2), mknod(2) and their kin: the trace has no such names. */
+/* The recorder's slot is opened by a path, which makes or cuts its file. */
+static void open_by_call(struct call *call, const char *name, u32 flags)
+{
+	struct opened **slot = &our_ring()->now[0];
+
+	*slot = release(*slot);
+	is_told_by(call, make_open(our_ring(), 1, name, flags, 0));
+}
+
+/* symlink(2), mknod(2) and their kin: the trace has no such names, but those of files. */
 static void ended_other_name(struct call *call, i64 result)
 {
-	(void)call;
+	int mode = kind_of(call->number)->flags;
+	bool is_file = mode != NONE &&
+		       (S_ISREG(call->arguments[mode]) || !(call->arguments[mode] & S_IFMT));
+
 	(void)result;
-	note("a name that is neither a file nor a directory is made, and left out", NULL);
+	if (is_file)
+		open_by_call(call, call->names[0], O_WRONLY | O_CREAT | O_EXCL);
+	else
+		note("a name that is neither a file nor a directory is made, and left out", NULL);
+}
+
+/* Puts a call in flight whose file is known at its end alone: entries that were in flight while it
+ * ran meet it. */
+static void launch_late(struct call *call, int copy)
+{
+	if (call->flight)
+		return;
+	call->flight = new_flight(call_ring(), allocate(sizeof(struct entry)), call->process);
+	call->flight->used = new_opened(fcntl(copy, F_DUPFD_CLOEXEC, 0), 0);
+	touch_file(call->flight, call->flight->used, 0, UINT64_MAX, true);
+	meet_others(call->flight);
+	launch(call->flight);
+}
+
+/* The path by which the recorder finds the file that truncate(2) cuts, in memory of its own. */
+static char *path_of_cut(const struct call *call)
+{
+	char *path = call->names[0] ? NULL : fetch_text(call->thread, call->arguments[0]), *seen;
+
+	seen = call->names[0] ? outside_path(call->names[0])
+	       : path	      ? seen_path(call->process, AT_FDCWD, path)
+			      : NULL;
+	free(path);
+	return seen;
 }
 
 /* truncate(2): the file is opened here for it. */
 static void ended_truncate(struct call *call, i64 result)
 {
-	char *full = outside_path(call->names[0]);
-	int copy = open(full, O_WRONLY | O_CLOEXEC);
+	char *full = path_of_cut(call);
+	int copy = full ? open(full, O_WRONLY | O_CLOEXEC) : -1;
 	struct io_uring_sqe sqe = { .opcode = OP_FTRUNCATE, .off = call->arguments[1] };
 
 	free(full);
-	if (copy < 0)
+	if (copy < 0) {
+		leave_unknown(call);
 		return;
+	}
+	launch_late(call, copy);
 	release(call->flight->used);
 	call->flight->used = new_opened(copy, 0);
 	add_on_file(call, &sqe, false, NULL, 0, (i32)result);
 }
 
-/* An open: what it makes or cuts becomes an entry, and the table learns the number while the file
- * has its name. */
+/* An open has made or cut a file, which becomes an entry. */
+static void tell_open(struct call *call, const char *name, u32 flags, int copy)
+{
+	launch_late(call, copy);
+	open_by_call(call, name, flags & (O_ACCMODE | O_CREAT | O_EXCL | O_TRUNC | O_APPEND));
+	if (options.format == 3) /* (what is written by this open has its slot) */
+		our_ring()->now[0] = new_opened(fcntl(copy, F_DUPFD_CLOEXEC, 0), 0);
+}
+
+/* An open: what it makes or cuts is told, and the table learns the number while the file has its
+ * name. */
 static void ended_open(struct call *call, i64 result)
 {
-	u32 flags = flags_of(call),
-	    kept = flags & (O_ACCMODE | O_CREAT | O_EXCL | O_TRUNC | O_APPEND);
+	u32 flags = flags_of(call);
+	bool is_nameless = flags & O_PATH || (flags & O_TMPFILE) == O_TMPFILE;
 	int copy = copy_descriptor(call->process, (int)result);
-	char *name = copy < 0 || flags & O_PATH || (flags & O_TMPFILE) == O_TMPFILE ? NULL
-										    : name_of(copy);
+	char *name = copy < 0 || is_nameless ? NULL : name_of(copy);
 
 	if (name && flags & (O_CREAT | O_TRUNC)) {
-		struct opened **slot = &our_ring()->now[0];
-		*slot = release(*slot);
-		is_told_by(call, make_open(our_ring(), 1, name, kept, 0));
-		if (options.format == 3) /* (what is written by this open has its slot) */
-			*slot = new_opened(fcntl(copy, F_DUPFD_CLOEXEC, 0), 0);
+		tell_open(call, name, flags, copy);
+	} else if (copy >= 0 && !is_nameless && flags & O_TRUNC) {
+		launch_late(call, copy);
+		struct opened *cut = new_opened(fcntl(copy, F_DUPFD_CLOEXEC, 0), 0);
+		note_nameless(cut);
+		release(cut);
 	}
 	if (name && trace.uses_table && options.format != 1 && call->process == home_process()) {
 		begin_batch();
@@ -390,6 +568,13 @@ static void ended_open(struct call *call, i64 result)
 	free(name);
 	if (copy >= 0)
 		close(copy);
+}
+
+/* io_submit(2): the bytes that it writes come later. */
+static void ended_submit(struct call *call, i64 result)
+{
+	for (u64 at = 0; result > 0 && at < call->file_count; at++)
+		leave_change(call->files[at], "what io_submit(2) writes is left out", false);
 }
 
 /* What a call by name touches. */
@@ -428,12 +613,14 @@ static const struct kind kinds[] = {
 	{ SYS_truncate, ended_truncate, NONE, NONE, 0, NONE, NONE, NONE },
 	{ SYS_openat, ended_open, NONE, 0, 1, NONE, NONE, 2 },
 	{ SYS_openat2, ended_open, NONE, 0, 1, NONE, NONE, NONE },
+	{ SYS_open_by_handle_at, ended_open, NONE, NONE, NONE, NONE, NONE, 2 },
+	{ SYS_io_submit, ended_submit, NONE, NONE, NONE, NONE, NONE, NONE },
 	{ SYS_unlinkat, ended_unlink, NONE, 0, 1, NONE, NONE, 2 },
 	{ SYS_mkdirat, ended_mkdir, NONE, 0, 1, NONE, NONE, NONE },
 	{ SYS_renameat2, ended_rename, NONE, 0, 1, 2, 3, 4 },
-	{ SYS_linkat, ended_link, NONE, 0, 1, 2, 3, NONE },
+	{ SYS_linkat, ended_link, NONE, 0, 1, 2, 3, 4 },
 	{ SYS_symlinkat, ended_other_name, NONE, 1, 2, NONE, NONE, NONE },
-	{ SYS_mknodat, ended_other_name, NONE, 0, 1, NONE, NONE, NONE },
+	{ SYS_mknodat, ended_other_name, NONE, 0, 1, NONE, NONE, 2 },
 #ifdef SYS_open
 	{ SYS_open, ended_open, NONE, NONE, 0, NONE, NONE, 1 },
 	{ SYS_creat, ended_open, NONE, NONE, 0, NONE, NONE, NONE },
@@ -444,10 +631,13 @@ static const struct kind kinds[] = {
 	{ SYS_renameat, ended_rename, NONE, 0, 1, 2, 3, NONE },
 	{ SYS_link, ended_link, NONE, NONE, 0, NONE, 1, NONE },
 	{ SYS_symlink, ended_other_name, NONE, NONE, 1, NONE, NONE, NONE },
-	{ SYS_mknod, ended_other_name, NONE, NONE, 0, NONE, NONE, NONE },
+	{ SYS_mknod, ended_other_name, NONE, NONE, 0, NONE, NONE, 1 },
 #endif
+	/* (these are stopped by what they are to do) */
+	{ SYS_fcntl, ended_fcntl, 0, NONE, NONE, NONE, NONE, NONE },
+	{ SYS_ioctl, ended_ioctl, 0, NONE, NONE, NONE, NONE, NONE },
 };
-enum { KINDS = sizeof kinds / sizeof *kinds };
+enum { KINDS = sizeof kinds / sizeof *kinds, KINDS_BY_COMMAND = 2 };
 
 /* What is known of a call, or NULL. */
 static const struct kind *kind_of(long number)
@@ -463,7 +653,7 @@ u32 list_calls(long *numbers, u32 room)
 {
 	u32 count = 0;
 
-	for (; count < KINDS && count < room; count++)
+	for (; count < KINDS - KINDS_BY_COMMAND && count < room; count++)
 		numbers[count] = kinds[count].number;
 	return count;
 }
@@ -495,6 +685,9 @@ void forget_call(struct call *call)
 	free(call->names[1]);
 	call->names[0] = call->names[1] = NULL;
 	call->flight = NULL;
+	call->is_unknown = call->looks = false;
+	while (call->file_count)
+		release(call->files[--call->file_count]);
 }
 
 bool may_change(const struct call *call)
@@ -513,16 +706,16 @@ bool may_change(const struct call *call)
 	}
 	if (kind->ended == ended_open && !(flags_of(call) & (O_CREAT | O_TRUNC)))
 		return false;
-	char *name = name_in_tree(call, kind->directory, kind->path),
-	     *other = name_in_tree(call, kind->other_directory, kind->other),
-	     *full = name ? outside_path(name) : NULL;
+	char *names[2], *full;
+	find_names(call, names);
+	full = names[0] ? outside_path(names[0]) : NULL;
 	/* (an open of a pipe waits for its other end) */
 	bool is_other = full && !stat(full, &status) && !S_ISREG(status.st_mode) &&
 			!S_ISDIR(status.st_mode);
-	bool may = (name || other) && !is_other;
+	bool may = (names[0] || names[1]) && !is_other;
 	free(full);
-	free(name);
-	free(other);
+	free(names[0]);
+	free(names[1]);
 	return may;
 }
 
@@ -542,40 +735,98 @@ static void touch_by_names(const struct call *call)
 	}
 }
 
-bool call_begins(struct call *call)
+/* A call by a descriptor: whether it may change a file. */
+static bool begins_on_file(struct call *call, const struct kind *kind)
 {
-	const struct kind *kind = kind_of(call->number);
+	int copy = copy_descriptor(call->process, (int)call->arguments[kind->file]);
 	struct stat status;
+	bool is_file = copy >= 0 && !fstat(copy, &status) && S_ISREG(status.st_mode) &&
+		       (kind->ended != ended_fcntl || changes_append(call, copy));
 
-	if (!is_started() || trace.is_ended || !kind)
-		return false;
-	if (kind->file != NONE) {
-		int copy = copy_descriptor(call->process, (int)call->arguments[kind->file]);
-		bool is_file = copy >= 0 && !fstat(copy, &status) && S_ISREG(status.st_mode);
-		if (is_file)
-			launch_call(call, copy);
-		else if (copy >= 0)
-			close(copy);
-		return is_file;
-	}
+	if (is_file)
+		launch_call(call, copy);
+	else if (copy >= 0)
+		close(copy);
+	return is_file;
+}
+
+/* A call by names: whether its end matters. What an open or truncate(2) leads to is seen then. */
+static bool begins_on_names(struct call *call, const struct kind *kind)
+{
 	if (kind->ended == ended_open && !trace.uses_table && !options.touched &&
 	    !(flags_of(call) & (O_CREAT | O_TRUNC)))
 		return false;
-	call->names[0] = name_in_tree(call, kind->directory, kind->path);
-	call->names[1] = name_in_tree(call, kind->other_directory, kind->other);
-	if (!call->names[0] && !call->names[1])
-		return false;
+	call->looks = kind->ended == ended_open || kind->ended == ended_truncate;
+	call->is_unknown = !find_names(call, call->names) && !call->looks;
+	bool has_name = call->names[0] || call->names[1];
 	if (options.touched)
 		touch_by_names(call);
-	launch_call(call, -1);
+	if (has_name)
+		launch_call(call, -1);
+	return has_name || call->looks || call->is_unknown;
+}
+
+/* Keeps a file that a call writes, once. */
+static void keep_file(struct call *call, int copy)
+{
+	struct opened *file = new_opened(copy, 0);
+
+	for (u64 at = 0; at < call->file_count; at++) {
+		if (call->files[at]->inode == file->inode &&
+		    call->files[at]->device == file->device) {
+			release(file);
+			return;
+		}
+	}
+	GROW(call->files, call->file_count, call->file_room);
+	call->files[call->file_count++] = file;
+}
+
+/* io_submit(2): the files that it writes. */
+static bool begins_to_submit(struct call *call)
+{
+	u64 list = call->arguments[2], count = min64(call->arguments[1], MOST_SUBMITTED);
+
+	for (u64 at = 0; at < count; at++) {
+		struct iocb block;
+		u64 address;
+		if (!fetch(call->thread, list + 8 * at, &address, sizeof address) ||
+		    !fetch(call->thread, address, &block, sizeof block))
+			break;
+		bool writes = block.aio_lio_opcode == IOCB_CMD_PWRITE ||
+			      block.aio_lio_opcode == IOCB_CMD_PWRITEV;
+		int copy = writes ? copy_descriptor(call->process, (int)block.aio_fildes) : -1;
+		if (copy >= 0)
+			keep_file(call, copy);
+	}
+	if (!call->file_count)
+		return false;
+	call->flight = new_flight(call_ring(), allocate(sizeof(struct entry)), call->process);
+	for (u64 at = 0; at < call->file_count; at++)
+		touch_file(call->flight, call->files[at], 0, UINT64_MAX, true);
+	meet_others(call->flight);
+	launch(call->flight);
 	return true;
+}
+
+bool call_begins(struct call *call)
+{
+	const struct kind *kind = kind_of(call->number);
+
+	if (!is_started() || trace.is_ended || !kind)
+		return false;
+	if (kind->ended == ended_submit)
+		return begins_to_submit(call);
+	return kind->file != NONE ? begins_on_file(call, kind) : begins_on_names(call, kind);
 }
 
 void call_ended(struct call *call, i64 result)
 {
 	const struct kind *kind = kind_of(call->number);
 
-	if (result >= 0 && kind && call->flight)
+	if (result >= 0 && kind && call->is_unknown)
+		leave_unknown(call);
+	else if (result >= 0 && kind && (call->flight || call->looks))
 		kind->ended(call, result);
 	forget_call(call);
 }

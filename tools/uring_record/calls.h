@@ -13,6 +13,10 @@ struct call {
 	pid_t thread, process;
 	char *names[2];	       /* the paths of the trace that it names, or NULL */
 	struct flight *flight; /* while it runs, where it changes the tree: what it touches */
+	bool is_unknown;       /* it has a name that is not known */
+	bool looks;	       /* what it opens or cuts is seen at its end */
+	struct opened **files; /* of io_submit(2): those that it writes */
+	u64 file_count, file_room;
 };
 
 /* The numbers of these calls; gives how many there are. */

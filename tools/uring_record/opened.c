@@ -1,4 +1,5 @@
 #include "opened.h"
+#include "flights.h"
 #include "paths.h"
 #include "start.h"
 
@@ -65,10 +66,27 @@ bool is_same(int one, int other)
 	return !syscall(SYS_kcmp, getpid(), getpid(), KCMP_FILE, one, other);
 }
 
+static bool may_append_otherwise;
+
+void appends_changed(void)
+{
+	may_append_otherwise = true;
+}
+
+bool has_other_append(const struct opened *opened)
+{
+	int flags = may_append_otherwise && opened->descriptor >= 0
+			    ? fcntl(opened->descriptor, F_GETFL)
+			    : -1;
+
+	return flags >= 0 && !(flags & O_APPEND) == opened->appends;
+}
+
 bool is_copy_of(const struct opened *opened, int copy, const struct stat *status)
 {
 	return opened && !opened->is_unsure && opened->inode == status->st_ino &&
-	       opened->device == status->st_dev && is_same(opened->descriptor, copy);
+	       opened->device == status->st_dev && is_same(opened->descriptor, copy) &&
+	       !has_other_append(opened);
 }
 
 char *name_of(int descriptor)
@@ -87,6 +105,10 @@ char *name_of(int descriptor)
 	    named.st_dev == status.st_dev && strcmp(target, root_path()))
 		name = inside_root(target);
 	free(target);
+	if (name && doubt_count && doubted_by(name, (u32)strlen(name)) != INSIDE) {
+		free(name);
+		name = NULL;
+	}
 	return name;
 }
 

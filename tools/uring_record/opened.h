@@ -32,8 +32,13 @@ bool is_same(int one, int other);
  * this, as a description. */
 bool is_copy_of(const struct opened *opened, int copy, const struct stat *status);
 
+/* A program has changed O_APPEND of something that it has open: from then on it is looked at whether
+ * a description has it otherwise than in the replay. */
+void appends_changed(void);
+bool has_other_append(const struct opened *opened);
+
 /* The name below the root of what a descriptor of the recorder leads to, in memory of its own, or
- * NULL. */
+ * NULL: also where it is not told what is at that name. */
 char *name_of(int descriptor);
 /* The path that opens anew what a descriptor of the recorder leads to. */
 int open_again(int descriptor, int flags);

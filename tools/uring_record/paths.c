@@ -162,14 +162,15 @@ static char *full_path(pid_t process, int directory, const char *path)
 	return full;
 }
 
-/* The same where links lead to the directory of the path. */
-static char *resolved(const char *path)
+/* The same where links lead to the directory of the path, if that is there. */
+static char *resolved(const char *path, bool *is_there)
 {
 	char directory[PATH_MAX], *parent = copy_text(path), *last = strrchr(parent, '/');
 	char *found = NULL;
 
 	*last = 0;
-	if (realpath(*parent ? parent : "/", directory)) {
+	*is_there = realpath(*parent ? parent : "/", directory);
+	if (*is_there) {
 		size_t room = strlen(directory) + strlen(last + 1) + 2;
 		char *full = allocate(room);
 		snprintf(full, room, "%s/%s", directory, last + 1);
@@ -191,9 +192,10 @@ char *translate(pid_t process, int directory, const char *path, bool *is_known)
 		return copy_text(path);
 	}
 	tidy(full);
+	bool is_there;
 	char *found = inside_root(full);
 	if (!found)
-		found = resolved(full);
+		found = resolved(full, &is_there);
 	if (!found) {
 		*is_known = false;
 		return full;
@@ -228,11 +230,13 @@ enum name_kind look_through(char **path, bool follows)
 {
 	enum name_kind kind = **path == '/' ? kind_of_name(*path, follows) : NAME_TOLD;
 	char whole[PATH_MAX];
+	bool is_there;
 
 	if (kind != NAME_LINK)
 		return kind;
 	char *full = outside_path(*path);
-	char *found = follows && realpath(full, whole) ? inside_root(whole) : resolved(full);
+	char *found =
+		follows && realpath(full, whole) ? inside_root(whole) : resolved(full, &is_there);
 	free(full);
 	if (!found || kind_of_name(found, follows) == NAME_LINK) {
 		free(found);
@@ -252,15 +256,68 @@ bool starts_somewhere(pid_t process, int directory, const char *path)
 	return is_known;
 }
 
-char *canonical_path(pid_t process, int directory, const char *path)
+char *canonical_path(pid_t process, int directory, const char *path, bool *is_known)
 {
 	char *full = *path ? full_path(process, directory, path) : NULL, *found = NULL;
 
 	for (size_t end = full ? strlen(full) : 0; end > 1 && full[end - 1] == '/'; end--)
 		full[end - 1] = 0;
 	const char *last = full ? strrchr(full, '/') + 1 : "";
-	if (*last && strcmp(last, ".") && strcmp(last, ".."))
-		found = resolved(full);
+	/* (what ends in dots names a directory, which no call makes, moves or takes away so) */
+	bool is_name = *last && strcmp(last, ".") && strcmp(last, "..");
+	*is_known = full && !is_name;
+	if (is_name)
+		found = resolved(full, is_known);
 	free(full);
 	return found;
+}
+
+char *seen_path(pid_t process, int directory, const char *path)
+{
+	static const char *const own[] = { "/proc/self/", "/proc/thread-self/", "/dev/fd/" };
+	static const char *const of_process[] = { "", "", "fd/" };
+	char *full = *path ? full_path(process, directory, path) : NULL, *seen;
+
+	if (!full)
+		return NULL;
+	tidy(full);
+	for (unsigned at = 0; at < sizeof own / sizeof *own; at++) {
+		size_t length = strlen(own[at]), room = strlen(full) + 32;
+		if (strncmp(full, own[at], length))
+			continue;
+		seen = allocate(room);
+		snprintf(seen, room, "/proc/%d/%s%s", process, of_process[at], full + length);
+		free(full);
+		return seen;
+	}
+	return full;
+}
+
+char *followed_path(pid_t process, int directory, const char *path)
+{
+	char *seen = seen_path(process, directory, path), whole[PATH_MAX];
+	char *found = seen && realpath(seen, whole) ? inside_root(whole) : NULL;
+
+	free(seen);
+	return found;
+}
+
+bool device_of(pid_t process, int directory, const char *path, dev_t *device)
+{
+	char *seen = allocate(strlen(path) + 64);
+	struct stat status;
+
+	if (*path == '/')
+		sprintf(seen, "/proc/%d/root%s", process, path);
+	else if (directory == AT_FDCWD)
+		sprintf(seen, "/proc/%d/cwd/%s", process, path);
+	else
+		sprintf(seen, "/proc/%d/fd/%d/%s", process, directory, path);
+	for (size_t end = strlen(seen); seen[end - 1] == '/'; end--)
+		seen[end - 1] = 0;
+	*strrchr(seen, '/') = 0;
+	bool is_there = !stat(seen, &status);
+	*device = is_there ? status.st_dev : 0;
+	free(seen);
+	return is_there;
 }

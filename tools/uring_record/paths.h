@@ -4,6 +4,8 @@
 
 #include "common.h"
 
+#include <sys/types.h>
+
 /* Sets the root, or ends the recorder where it cannot be one. */
 void set_root(const char *path);
 const char *root_path(void);
@@ -36,7 +38,15 @@ enum name_kind look_through(char **path, bool follows);
 /* Whether it is known from which directory a path of a call starts. */
 bool starts_somewhere(pid_t process, int directory, const char *path);
 /* A path of a call as the trace has it, without dots and links, or NULL where it is not below the
- * root. */
-char *canonical_path(pid_t process, int directory, const char *path);
+ * root. `is_known` is false where that is not known: its directory is not there, or another one in
+ * the process. */
+char *canonical_path(pid_t process, int directory, const char *path, bool *is_known);
+/* The same of what the path leads to, through all links. */
+char *followed_path(pid_t process, int directory, const char *path);
+/* The device of the directory of a path, whatever the process sees there; false where that is not
+ * there. */
+bool device_of(pid_t process, int directory, const char *path, dev_t *device);
+/* A full path by which the recorder finds what a path of a process leads to, or NULL. */
+char *seen_path(pid_t process, int directory, const char *path);
 
 #endif

@@ -414,7 +414,8 @@ static void set_slot(struct ring *ring, u32 slot, int descriptor)
 void put_into_slot(struct ring *ring, u32 slot, int copy)
 {
 	bool is_there = !ring->foreign[slot] && ring->now[slot] &&
-			is_same(ring->now[slot]->descriptor, copy);
+			is_same(ring->now[slot]->descriptor, copy) &&
+			!has_other_append(ring->now[slot]);
 
 	ring->changed[slot] = (struct change){ ring->sequence, NO_CHAIN };
 	if (options.format == 3 && (is_there || slot >= ring->slot_count)) {

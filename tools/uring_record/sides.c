@@ -169,10 +169,12 @@ static char *real_name(const struct flight *flight, int directory, const char *t
 		       const char *path)
 {
 	const struct entry *entry = flight->entry;
+	bool is_known;
 
 	if (reason_of(entry) == OUTSIDE_LINK && entry->sqe.opcode != OP_OPENAT)
 		return NULL;
-	return entry->is_aside ? canonical_path(flight->process, directory, text) : copy_text(path);
+	return entry->is_aside ? canonical_path(flight->process, directory, text, &is_known)
+			       : copy_text(path);
 }
 
 /* The first or second path of an entry as the trace has it, in memory of its own. */
@@ -222,7 +224,8 @@ static void take_two_paths(struct flight *flight, pid_t thread)
 	free(other);
 }
 
-/* A STATX by a number has no path. Where it has one, or is of the working directory, it is outside. */
+/* A STATX by a number has no path. Where it has one, or is of the working directory, it is outside.
+ */
 static void take_no_path(struct entry *entry, pid_t thread)
 {
 	char *text = fetch_text(thread, entry->sqe.addr);

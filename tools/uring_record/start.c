@@ -321,7 +321,8 @@ i64 description_of(int descriptor, bool adds)
 	int flags = fcntl(descriptor, F_GETFL);
 
 	for (u64 at = 0; at < trace.description_count; at++) {
-		if (is_same(trace.descriptions[at].opened->descriptor, descriptor))
+		const struct opened *known = trace.descriptions[at].opened;
+		if (is_same(known->descriptor, descriptor) && !has_other_append(known))
 			return (i64)at;
 	}
 	if (!adds || flags < 0 || (flags & O_PATH) || (flags & O_ACCMODE) == O_ACCMODE)

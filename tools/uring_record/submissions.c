@@ -271,6 +271,9 @@ static void ensure_place(struct flight *flight)
 		return;
 	if (uses_file(sqe) && sqe->flags & FLAG_FIXED) {
 		u32 slot = (u32)sqe->fd;
+		if (slot < ring->slot_count && ring->now[slot] && has_other_append(ring->now[slot]))
+			put_into_slot(ring, slot,
+				      fcntl(ring->now[slot]->descriptor, F_DUPFD_CLOEXEC, 0));
 		struct opened *foreign = foreign_in(ring, slot);
 		if (foreign)
 			slot_leads_elsewhere(flight, foreign);

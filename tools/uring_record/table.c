@@ -147,7 +147,8 @@ static enum leads correct_number(pid_t process, int number)
 	if (open_at_number(process, number, copy))
 		return LEADS_TO_FILE;
 	/* (a file that lost its name is as good as any that the replay may have here) */
-	bool is_kept = place->state == PLACE_FILE && is_same(copy, place->opened->descriptor);
+	bool is_kept = place->state == PLACE_FILE && is_same(copy, place->opened->descriptor) &&
+		       !has_other_append(place->opened);
 	if (place->state == PLACE_FILE && !is_kept)
 		leave_number(number);
 	close(copy);
@@ -168,7 +169,7 @@ enum leads ensure_number(pid_t process, int number)
 		return place->leads;
 	place->batch = batch;
 	if (place->state == PLACE_FILE && !place->opened->is_unsure &&
-	    leads_to(process, number, place->opened))
+	    leads_to(process, number, place->opened) && !has_other_append(place->opened))
 		place->leads = LEADS_TO_FILE;
 	else
 		place->leads = correct_number(process, number);
@@ -181,7 +182,7 @@ enum leads ensure_slot(struct ring *ring, pid_t process, int number)
 		return is_open(process, number) ? LEADS_ELSEWHERE : LEADS_NOWHERE;
 	u32 slot = VERSION_ONE_SLOTS + (u32)number;
 	ring->slot_count = MOST_SLOTS;
-	if (leads_to(process, number, ring->now[slot]))
+	if (leads_to(process, number, ring->now[slot]) && !has_other_append(ring->now[slot]))
 		return LEADS_TO_FILE;
 	int copy = copy_descriptor(process, number);
 	if (copy < 0)

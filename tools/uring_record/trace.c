@@ -163,6 +163,17 @@ void set_node(const struct stat *status, u32 item)
 	make_node(status->st_dev, status->st_ino)->item = item;
 }
 
+bool knows_device(dev_t device)
+{
+	for (u32 chain = 0; chain < NODE_CHAINS; chain++) {
+		for (const struct node *it = nodes[chain]; it; it = it->next) {
+			if (it->device == device)
+				return true;
+		}
+	}
+	return false;
+}
+
 enum outside doubt_of(dev_t device, ino_t inode)
 {
 	const struct node *node = find_node(device, inode);

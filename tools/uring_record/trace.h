@@ -175,6 +175,8 @@ u64 stored_of(u64 written);
 /* The node (number of an item, 0 for the root) of a file, or NO_ITEM; and its being told. */
 u32 node_of(const struct stat *status);
 void set_node(const struct stat *status, u32 item);
+/* Whether a file that is known is on a device. */
+bool knows_device(dev_t device);
 /* Why the bytes of a file are not told, in the tree or not; the first reason stays, unless it is
  * INSIDE or OUTSIDE_UNTOUCHED. */
 enum outside doubt_of(dev_t device, ino_t inode);

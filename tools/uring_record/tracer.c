@@ -17,6 +17,7 @@
 #include <fcntl.h>
 #include <linux/audit.h>
 #include <linux/filter.h>
+#include <linux/fs.h>
 #include <linux/sched.h>
 #include <linux/seccomp.h>
 #include <signal.h>
@@ -508,7 +509,11 @@ static bool begins(struct thread *thread)
 	case SYS_execve:
 	case SYS_execveat:
 	case SYS_flock:
+		let_go_of_closed_files();
+		return false;
 	case SYS_fcntl:
+		if ((int)call->arguments[1] == F_SETFL)
+			return call_begins(call);
 		let_go_of_closed_files();
 		return false;
 	case SYS_exit_group:
@@ -627,18 +632,28 @@ static struct sock_filter jump_if_equal(u32 value, u32 then, u32 otherwise)
 	return (struct sock_filter){ BPF_JMP | BPF_JEQ | BPF_K, (u8)then, (u8)otherwise, value };
 }
 
-/* Adds the part of a filter that stops fcntl(2) where it locks a file by its description; gives how
- * long the filter is then. */
-static u16 filter_locks(struct sock_filter *filter, u16 length)
-{
-	static const u32 commands[] = { F_OFD_SETLK, F_OFD_SETLKW, F_SETLEASE };
-	enum { COMMANDS = sizeof commands / sizeof *commands };
+/* What ioctl(2) does to ranges of files, as XFS began it. */
+struct space {
+	int16_t type, whence;
+	i64 start, length;
+	i32 system;
+	u32 process;
+	i32 rest[4];
+};
+#define TAKE_OUT_RANGE _IOW('X', 41, struct space)
+#define TAKE_OUT_RANGE_64 _IOW('X', 43, struct space)
+#define CLEAR_RANGE _IOW('X', 57, struct space)
 
-	filter[length++] = jump_if_equal(SYS_fcntl, 0, COMMANDS + 3);
+/* Adds the part of a filter that stops a call where its second argument is one of some commands;
+ * gives how long the filter is then. */
+static u16 filter_commands(struct sock_filter *filter, u16 length, u32 number, const u32 *commands,
+			   u32 count)
+{
+	filter[length++] = jump_if_equal(number, 0, count + 3);
 	filter[length++] =
 		statement(BPF_LD | BPF_W | BPF_ABS, offsetof(struct seccomp_data, args[1]));
-	for (u32 at = 0; at < COMMANDS; at++)
-		filter[length++] = jump_if_equal(commands[at], COMMANDS - at, 0);
+	for (u32 at = 0; at < count; at++)
+		filter[length++] = jump_if_equal(commands[at], count - at, 0);
 	filter[length++] = statement(BPF_RET | BPF_K, SECCOMP_RET_ALLOW);
 	filter[length++] = statement(BPF_RET | BPF_K, SECCOMP_RET_TRACE);
 	return length;
@@ -666,8 +681,16 @@ static bool set_filter(void)
 		SYS_execve,	    SYS_execveat,	SYS_flock,
 		SYS_clone3
 	};
-	enum { OF_RINGS = sizeof of_rings / sizeof *of_rings };
-	struct sock_filter filter[MOST_CALLS + 24];
+	/* (locks of a file by its description, O_APPEND, and what changes a file) */
+	static const u32 of_fcntl[] = { F_OFD_SETLK, F_OFD_SETLKW, F_SETLEASE, F_SETFL },
+			 of_ioctl[] = { FICLONE, FICLONERANGE, TAKE_OUT_RANGE, TAKE_OUT_RANGE_64,
+					CLEAR_RANGE };
+	enum {
+		OF_RINGS = sizeof of_rings / sizeof *of_rings,
+		OF_FCNTL = sizeof of_fcntl / sizeof *of_fcntl,
+		OF_IOCTL = sizeof of_ioctl / sizeof *of_ioctl,
+	};
+	struct sock_filter filter[MOST_CALLS + 40];
 	long numbers[MOST_CALLS];
 	u16 length = 0;
 
@@ -677,7 +700,8 @@ static bool set_filter(void)
 	filter[length++] = jump_if_equal(OWN_ARCHITECTURE, 1, 0);
 	filter[length++] = statement(BPF_RET | BPF_K, SECCOMP_RET_ALLOW);
 	filter[length++] = statement(BPF_LD | BPF_W | BPF_ABS, offsetof(struct seccomp_data, nr));
-	length = filter_locks(filter, length);
+	length = filter_commands(filter, length, SYS_fcntl, of_fcntl, OF_FCNTL);
+	length = filter_commands(filter, length, SYS_ioctl, of_ioctl, OF_IOCTL);
 	length = filter_clones(filter, length);
 	for (u32 at = 0; at < count; at++)
 		filter[length++] = jump_if_equal((u32)numbers[at], count - at, 0);
