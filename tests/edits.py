@@ -1,92 +1,111 @@
 #!/usr/bin/env python3
-"""The must-fail edits of the crates: whether each can be applied, and those that the gate leaves out.
+"""The must-fail edits of the crates, which the prover has to refuse.
 
-    tests/edits.py             looks at every edit: each text that it replaces stands once in its file
-    tests/edits.py NAME ..     tries all edits of these crates, also those in crates/NAME/edits, which `rt ci` does not try
+    tests/edits.py                 looks at every edit: each text that it replaces stands once in its file, and it has its day
+    tests/edits.py --compile       compiles all edits together, without proofs
+    tests/edits.py NAME ..         tries all edits of these crates by the prover
+    tests/edits.py --all           tries all edits of all crates
+    tests/edits.py --day YYYY-MM-DD    tries those that ./test tries on this day
 
-`rt ci` tries the edits in crates/NAME/must-fail. For these it proves the crate a second time, so the crates that take long have theirs in
-crates/NAME/edits. The second form copies what git has of the repository into a
-folder of its own, puts the edits where `rt must-fail` looks for them, and runs it. Ends with 1 where an edit does not do what it is to.
+`rt ci` tries the edits in crates/NAME/must-fail. Those in crates/NAME/edits are tried in turn, by the day (edit_days.py). The libraries below a crate have to be
+there, as `rt ci` or `rt check` in the crate's folder leaves them. Ends with 1 where an edit does not do what it is to.
 """
-import os
-import re
+import argparse
 import shutil
-import subprocess
 import sys
-import tempfile
-from typing import Iterator, List, Tuple
+from typing import List
 
-TOP = os.path.dirname(os.path.dirname(os.path.abspath(__file__)))
-FOLDERS = ("must-fail", "edits")
-LINE = re.compile(r"(file|old|new): (.*)")
+sys.dont_write_bytecode = True
 
-
-def edits_of(crate: str) -> Iterator[str]:
-    """The files of a crate's edits."""
-    for folder in FOLDERS:
-        at = os.path.join(crate, folder)
-        for name in sorted(os.listdir(at)) if os.path.isdir(at) else ():
-            yield os.path.join(at, name)
+import edit_days
+import edits_together
+import planted_edits
+from days import DAY, day_of, written
+from edit_days import Tried
+from edit_files import Edit, looked_at, read
+from harness import Job, Outcome, Program, say
+from refusals import SHOWN, Kind
 
 
-def pairs(path: str) -> Iterator[Tuple[str, str]]:
-    """What the lines of an edit say, in order."""
-    with open(path, encoding="utf-8") as file:
-        for line in file.read().splitlines():
-            found = LINE.fullmatch(line)
-            if found:
-                yield found[1], found[2]
+def look() -> List[str]:
+    """What is wrong with edits that cannot be applied, or that no day tries."""
+    edits, faults = looked_at()
+    return faults + edit_days.without_a_day(edits)
 
 
-def fault_of(crate: str, path: str) -> str:
-    """Why an edit cannot be applied, or nothing."""
-    text, old = "", ""
-    for word, said in pairs(path):
-        if word == "file":
-            try:
-                with open(os.path.join(crate, said), encoding="utf-8") as file:
-                    text = file.read()
-            except OSError as error:
-                return "{}: {}".format(said, error.strerror)
-        elif word == "old":
-            old = said
-            if text.count(old) != 1:
-                return "it replaces {!r}, which stands {} times".format(old, text.count(old))
-        else:
-            text = text.replace(old, said)
-    return "" if old else "it replaces nothing"
+def tell(tried: List[Tried], minutes: float) -> None:
+    """Says what was tried, and how each was refused."""
+    for it in tried:
+        say("edit {}: {}: {}".format(it.edit.name, it.kind.value, it.text[:200]))
+    kinds = ", ".join("{}: {}".format(kind.value, count) for kind in Kind for count in [sum(it.kind is kind for it in tried)] if count)
+    say("edits tried: {} ({}); processor minutes: {:.1f}".format(len(tried), kinds or "none", minutes))
 
 
-def look() -> int:
-    """Looks at every edit, and says which cannot be applied."""
-    crates = os.path.join(TOP, "crates")
-    faults = []
-    for name in sorted(os.listdir(crates)):
-        crate = os.path.join(crates, name)
-        for path in edits_of(crate):
-            fault = fault_of(crate, path)
-            if fault:
-                faults.append("{}: {}".format(os.path.relpath(path, TOP), fault))
+def tried_and_told(edits: List[Edit]) -> List[Tried]:
+    before = edit_days.minutes()
+    tried = edit_days.try_all(edits)
+    tell(tried, edit_days.minutes() - before)
+    return tried
+
+
+def of_the_day() -> List[Outcome]:
+    """Tries the edits of the day. One that does not show anything of a contract fails."""
+    edits, _ = looked_at()
+    today = edit_days.of_day(edits, DAY[0])
+    crates = dict.fromkeys(it.crate for it in today)
+    say("edits of {}: {} of {} in turn, of {}".format(written(), len(today), sum(map(len, edit_days.in_turn(edits).values())), ", ".join(crates)))
+    return [outcome(it, edits) for it in tried_and_told(today)]
+
+
+def outcome(tried: Tried, edits: List[Edit]) -> Outcome:
+    name = "the edit {} is refused by a goal".format(tried.edit.name)
+    if tried.kind in SHOWN:
+        return Outcome(name)
+    return Outcome(name, "{}: {}\nit was last tried on {}".format(tried.kind.value, tried.text, edit_days.last_tried(tried.edit, edits, DAY[0])))
+
+
+def again(names: List[str]) -> List[Outcome]:
+    """Tries edits of which `rt ci` did not say enough: it shows one line of what the checker says."""
+    edits, _ = looked_at()
+    return [outcome(it, edits) for it in tried_and_told([it for it in edits if it.name in names])]
+
+
+def compiles() -> List[Outcome]:
+    """All edits compile, in one build or a few."""
+    if not shutil.which("rt"):
+        return [Outcome("each edit compiles", skipped="there is no command rt")]
+    edits, _ = looked_at()
+    faults = edits_together.stale(edits)
+    return [Outcome("each of {} edits compiles".format(len(edits)), "\n".join(faults) or None)]
+
+
+def jobs(programs: List[Program]) -> List[Job]:
+    return [compiles, *planted_edits.jobs()]
+
+
+def main() -> int:
+    words = argparse.ArgumentParser(description=__doc__, formatter_class=argparse.RawDescriptionHelpFormatter)
+    words.add_argument("names", nargs="*", metavar="NAME")
+    words.add_argument("--compile", action="store_true")
+    words.add_argument("--all", action="store_true")
+    words.add_argument("--day", type=day_of)
+    given = words.parse_args()
+    edits, _ = looked_at()
+    lacking = [it for it in given.names if it not in {edit.crate for edit in edits}]
+    if lacking:
+        words.error("{} has no edits".format(lacking[0]))
+    faults: List[str] = []
+    if given.compile:
+        faults = edits_together.stale(edits)
+    elif given.names or given.all or given.day is not None:
+        chosen = [it for it in edits if given.all or it.crate in given.names] or edit_days.of_day(edits, given.day)
+        faults = edit_days.faults(tried_and_told(chosen))
+    else:
+        faults = look()
     for fault in faults:
         print(fault)
     return 1 if faults else 0
 
 
-def copied(folder: str) -> None:
-    """Copies the files that git has, as they stand, with the edits of crates/NAME/edits among those that are tried."""
-    listed = subprocess.run(["git", "ls-files", "-z", "crates", "crates.txt", "HANDLES"], cwd=TOP, stdout=subprocess.PIPE, check=True)
-    for name in filter(None, listed.stdout.decode("utf-8").split("\0")):
-        to = os.path.join(folder, re.sub(r"^(crates/[^/]*)/edits/", r"\1/must-fail/", name))
-        os.makedirs(os.path.dirname(to), exist_ok=True)
-        shutil.copyfile(os.path.join(TOP, name), to)
-
-
-def tried(names: List[str]) -> int:
-    """Tries the edits of some crates on a copy."""
-    with tempfile.TemporaryDirectory(prefix="edits-") as folder:
-        copied(folder)
-        return subprocess.run(["rt", "must-fail", *names], cwd=folder).returncode
-
-
 if __name__ == "__main__":
-    sys.exit(tried(sys.argv[1:]) if sys.argv[1:] else look())
+    sys.exit(main())

@@ -2,14 +2,9 @@
 import re
 from typing import List
 
+import refusals
 from harness import Count, Outcome
-
-# An edit that cannot be applied, compiled or read tells nothing of a contract, nor does one that the prover refuses only by a limit of
-# its own. `rt ci` says so, and goes on.
-EMPTY_EDITS = (
-    ("BAD EDIT", "it cannot be applied, compiled or read"),
-    ("refused, as it must be (only by a limit", "the prover refuses it only by a limit of its own"),
-)
+from refusals import Kind
 
 
 class Told:
@@ -19,6 +14,8 @@ class Told:
         self.crate = ""
         self.last = ""
         self.outcomes: List[Outcome] = []
+        # The edits of which its line does not show that a goal is refused.
+        self.unshown: List[str] = []
 
     def read(self, text: str) -> None:
         """Takes the next line."""
@@ -27,9 +24,12 @@ class Told:
         if "imports that nothing uses" in text:
             fault = "its proofs or specs have some: `rt tidy` in the crate removes them"
             self.outcomes.append(Outcome("no unused imports in {}".format(self.crate), fault))
-        for mark, fault in EMPTY_EDITS:
-            if mark in text:
-                self.outcomes.append(Outcome(text.partition(": " + mark)[0], fault))
+        edit = refusals.told_by(text)
+        if edit and (edit.kind is Kind.BAD or refusals.BY_LIMIT in text):
+            # `rt ci` says so, and goes on.
+            self.outcomes.append(Outcome("the edit {}".format(edit.name), edit.kind.value))
+        elif edit and edit.kind in (Kind.LIMIT, Kind.PROOF, Kind.UNKNOWN):
+            self.unshown.append(edit.name)
 
     def end(self, status: int, count: Count) -> None:
         """Adds up what the last line counted, once the command has ended with this status."""
