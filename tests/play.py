@@ -19,6 +19,7 @@ if __name__ == "__main__":
 import drawing
 import hostile_traces
 import play_contained
+import play_reads
 import play_rows
 import record_traces
 from by_models import MODELS
@@ -209,7 +210,7 @@ def silences(player: Player, program: Program) -> List[Outcome]:
     for label, chain, slots in (("doomed", doomed, ()), ("slow", slow, (1,))):
         trace = head(1, 1, 1, 1) + file(b"/a", 1 << 40, b"0123") + description(1) + ring(slots) + enter(0, chain)
         report = program.run(["serial", "--sums"], trace).output
-        outcomes.append(Outcome("the player: a {} chain".format(label), against(program, report, player.steered(trace, report, ["--patience", "100"])).fault))
+        outcomes.append(Outcome("the player: a {} chain".format(label), against(program, report, player.steered(trace, report, ["--patience", "100", "--no-read-sums"])).fault))
     return outcomes
 
 
@@ -452,7 +453,7 @@ def jobs(programs: List[Program]) -> List[Job]:
     each: List[Job] = [partial(it, player, program) for it in (limits_of_version_3, long_chains, silences, stuck, on_less, notices, made_up_for, prepared, play_rows.outcomes)]
     each += [partial(it, player) for it in (limits, unread, interrupted, too_small, rings_go, calls, sparse, statuses)]
     each += [partial(compiles, player, it) for it in ("gcc", "clang")]
-    each += [partial(play_rows.words_agree, listed_words()), *play_contained.jobs(player, program)]
+    each += [partial(play_rows.words_agree, listed_words()), *play_contained.jobs(player, program), *play_reads.jobs(player, program)]
     each += [partial(drawn, player, program, shares[0], Played, range(at, at + EACH)) for at in range(0, DRAWN, EACH)]
     each += [partial(drawn, player, MODELS, shares[1], PlayedRecords, range(at, at + EACH)) for at in range(0, OF_VERSION_3, EACH)]
     each += [partial(changed, player, program, "changed traces", drawing.changed, range(at, at + EACH)) for at in range(0, CHANGED, EACH)]

@@ -1,6 +1,7 @@
 """Builds the player, and plays traces with it: see docs/PLAYING.md."""
 import copy
 import os
+import re
 import shutil
 import subprocess
 import tempfile
@@ -11,6 +12,8 @@ from shims import Shim
 
 SOURCES, SHARED = (os.path.join(TOP, "tools", it) for it in ("uring_play", "shared"))
 UNTRIED, SECONDS = 77, 120
+# Traces whose reads bring more bytes are played without the sums of these, but for what tries them.
+MOST_SUMMED = 1 << 28
 # One chain at a time; in rounds; in rounds in threads of the kernel's; each chain once all that it waits for has finished, in threads.
 MODES = ("chains", "rounds", "threads", "flight")
 SECTIONS = ("entries", "tree", "slots", "buffers")
@@ -90,12 +93,22 @@ class Player:
                         file.write(text)
             return self.play([*given, *words], trace, directory)
 
-    def compared(self, program: Program, trace: bytes, report: bytes, mode: str, directory: str, words: Sequence[str] = ()) -> Compared:
-        """Plays a trace in a mode, and holds it against its report."""
+    def played(self, program: Program, trace: bytes, report: bytes, mode: str, directory: str, words: Sequence[str] = ()) -> Answer:
+        """Plays a trace by its report in a mode."""
         rounds = program.run(["rounds"], trace).output if mode in ("rounds", "threads") else b""
         depends = program.run(["depends"], trace).output if mode == "flight" else b""
         in_threads = ["--async"] if mode in ("threads", "flight") else []
-        return against(program, report, self.steered(trace, report, [*in_threads, *words], rounds, directory, depends))
+        return self.steered(trace, report, [*in_threads, *words], rounds, directory, depends)
+
+    def compared(self, program: Program, trace: bytes, report: bytes, mode: str, directory: str, words: Sequence[str] = ()) -> Compared:
+        """Plays a trace in a mode, and holds it against its report. The sums of much that is read take long, and are left out."""
+        fewer = ["--no-read-sums"] if bytes_read(report) > MOST_SUMMED else []
+        return against(program, report, self.played(program, trace, report, mode, directory, [*words, *fewer]))
+
+
+def bytes_read(report: bytes) -> int:
+    """How many bytes the reads of more than 32 bytes brought."""
+    return sum(int(it) for it in re.findall(rb" res=(\d+) (?:posted|silent) data=[0-9a-f]*\+", report))
 
 
 def against(program: Program, report: bytes, got: Answer) -> Compared:

@@ -51,15 +51,15 @@ def name_of(opcode: str) -> str:
 
 
 def facts_of(line: str, opcode: str) -> str:
-    """What a line says of an entry's end, in general: a number of bytes is N, and bytes are data."""
+    """What a line says of an entry's end, in general: a number of bytes is N, and bytes and their sum are the fact's name."""
     words = []
     for word in line.split()[2:]:
         if word.startswith("res="):
             words.append("N" if opcode in COUNTED and not word.startswith("res=-") and word != "res=0" else word[4:])
         elif word in ("posted", "silent"):
             words.append(word)
-        elif word.startswith("data="):
-            words.append("data")
+        elif word.startswith(("data=", "data-sum=")):
+            words.append(word.split("=")[0])
     return " ".join(words)
 
 

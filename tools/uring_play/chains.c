@@ -1,6 +1,8 @@
 #include "chains.h"
 #include "apart.h"
+#include "brought.h"
 #include "entry.h"
+#include "fill.h"
 #include "mend.h"
 #include "uring.h"
 
@@ -96,17 +98,40 @@ static bool breaks(const struct entry *entry, bool is_last)
 	return !is_last && is_failure(entry, entry->expected) && !(entry->sqe[1] & FLAG_HARD);
 }
 
+/* Whether a member has to wait until those before it in its piece are looked at: it reads over what
+ * they read into a buffer, or there is no memory for its bytes beside theirs. `read` is how many
+ * bytes they read. */
+static bool is_cut_before(const struct entry *entry, u64 *read)
+{
+	bool is_summed = is_read(entry->sqe[0]) && !options.no_sums;
+	u64 length = is_summed ? filled_by(entry) : 0;
+	bool is_over = reads_over(entry, length);
+	bool is_much = *read && *read + length > MOST_GREAT;
+
+	*read += length;
+	return is_over || is_much;
+}
+
 /* Gives the members that run by the answers, cut where the kernel would do otherwise with the rest;
  * the last piece is left to the caller, which gets where it begins and where a member breaks the
  * chain (`count` where none does). */
 static u32 plan_members(struct entry *first, u32 count, u32 *broken_at, on_members *each)
 {
 	u32 from = 0, at;
+	u64 read = 0;
 
+	forget_stretches();
 	for (at = 0; at < count; at++) {
 		struct entry *it = &first[at];
 		bool is_breaking = breaks(it, at + 1 == count);
 		bool is_cut_here = is_cut(it) && !is_breaking;
+		if (is_cut_before(it, &read)) {
+			take_some(first, from, at, each);
+			from = at;
+			forget_stretches();
+			read = 0;
+			is_cut_before(it, &read);
+		}
 		if (it->apart != NOT_APART) {
 			take_some(first, from, at, each);
 			leave_out(it, it->apart, each);

@@ -32,6 +32,7 @@ struct options {
 	bool raw;	  /* entries are played as they stand, all fields of them */
 	bool strict;	  /* results that are as right are told as different */
 	bool no_limit;	  /* the size of files is not limited to 2^40 */
+	bool no_sums;	  /* no sum of what a read brought is told */
 	bool quiet;	  /* no summary */
 	bool json;	  /* the summary is JSON */
 	bool lacking[OPCODES]; /* opcodes that are taken as ones that the kernel lacks */

@@ -112,6 +112,14 @@ u64 asked_of(const struct entry *entry)
 	return sum;
 }
 
+struct buffer *buffer_of(const struct entry *entry)
+{
+	struct ring_of_trace *ring = &trace.rings[entry->ring];
+	u16 number = fields_of(entry).buffer;
+
+	return number < ring->buffer_count ? &ring->buffers[number] : NULL;
+}
+
 bool is_failure(const struct entry *entry, i32 result)
 {
 	if (entry->is_given)

@@ -39,6 +39,8 @@ bool is_stat(u8 opcode);
 bool is_served(u8 opcode);
 /* How many bytes a read or write asks for. */
 u64 asked_of(const struct entry *entry);
+/* The registered buffer that a READ_FIXED or WRITE_FIXED names; NULL if there is none. */
+struct buffer *buffer_of(const struct entry *entry);
 bool is_read(u8 opcode);
 bool is_transfer(u8 opcode);
 /* Whether a result is a failure that breaks a chain, by the profile. */

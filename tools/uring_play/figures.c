@@ -147,6 +147,9 @@ static void say_all(const u64 *times)
 	if (counts.unsaid)
 		say("%" PRIu64 " chains were taken as ended since nothing more came",
 		    counts.unsaid);
+	if (counts.unsummed)
+		say("%" PRIu64 " reads have no sum, since they brought too much at once",
+		    counts.unsummed);
 }
 
 /* --- As JSON ------------------------------------------------------------------------------------
@@ -190,9 +193,10 @@ static void write_json(const u64 *times)
 		"{\"entries\":%" PRIu64 ",\"seconds\":%.9f,\"entries_per_second\":%.1f,"
 		"\"bytes\":%" PRIu64 ",\"bytes_per_second\":%.1f,\"not_played\":%" PRIu64
 		",\"given\":%" PRIu64 ",\"made_up_for\":%" PRIu64 ",\"taken_as_ended\":%" PRIu64
-		",",
+		",\"unsummed\":%" PRIu64 ",",
 		counts.played, counts.seconds, a_second(counts.played), all_bytes(),
-		a_second(all_bytes()), counts.unplayed, counts.given, counts.mended, counts.unsaid);
+		a_second(all_bytes()), counts.unplayed, counts.given, counts.mended, counts.unsaid,
+		counts.unsummed);
 	if (times) {
 		struct figures it = delays(times);
 		write_shares("delay_ns", &it);

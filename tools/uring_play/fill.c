@@ -21,7 +21,6 @@
 enum { ARENAS = 4, ARENA = 64 << 20, GREAT = 4 << 20, FOLDED = 64 << 20, PAGE = 4096 };
 /* A process has some 65,000 mappings at most, and a great read some 33. */
 enum { BEHIND_FIELDS = 48, CROWDED = 64, MODE_OF_DIRECTORIES = 0755 };
-enum { KIND_DIRECTORY = 1, KIND_FILE = 2 };
 /* Low enough that vectors of many bytes stay below the end of all addresses, where it is free. */
 #define LOW_ADDRESS ((u8 *)(1UL << 45))
 
@@ -42,7 +41,7 @@ static struct arena arenas[ARENAS];
 static u32 arena_number; /* which is given out */
 static int folded = -1;
 static u64 mapped_bytes; /* behind the arenas */
-static u8 **read_into;	 /* by place, for reads that are in flight */
+static u64 great_bytes;	 /* which reads that are in flight may fill, of mappings of their own */
 static const u8 *zeros;	 /* as many as an entry writes at most, which take no memory */
 
 /* --- Memory -------------------------------------------------------------------------------------
@@ -65,14 +64,14 @@ void prepare_memory(void)
 	folded = move_up(memfd_create("uring_play", MFD_CLOEXEC));
 	if (folded < 0 || ftruncate(folded, FOLDED))
 		die("memory for great reads: %s", strerror(errno));
-	read_into = allocate(trace.places * sizeof *read_into);
 	if (trace.most_zeros)
 		zeros = map(NULL, trace.most_zeros);
 }
 
 static bool is_full(const struct arena *arena)
 {
-	return arena->mapping_count >= CROWDED || arena->used > ARENA / 2;
+	return arena->mapping_count >= CROWDED || arena->used > ARENA / 2 ||
+	       great_bytes > MOST_GREAT;
 }
 
 /* The first arena that has room, if there is one: else the one that is given out. */
@@ -144,14 +143,13 @@ static u8 *memory_of(u64 size)
 	return arena->memory + arena->used - room;
 }
 
-/* Memory that is read into. Where there is much of it, it is the same pages over and over behind
- * the first one, of which alone something is told. */
-static u8 *memory_to_read(u64 size)
+/* Memory for what is too much beside other reads: the same pages over and over behind the first
+ * one, of which alone something is told. */
+static u8 *fold(u64 size)
 {
-	if (size <= GREAT && arenas[arena_number].used + size < ARENA)
-		return memory_of(size);
 	u64 room = (size + PAGE) & ~(u64)(PAGE - 1);
 	u8 *memory = map_for_now(PAGE + room);
+
 	for (u64 at = 0; at < room; at += FOLDED) {
 		if (mmap(memory + PAGE + at, min64(FOLDED, room - at), PROT_READ | PROT_WRITE,
 			 MAP_SHARED | MAP_FIXED, folded, 0) == MAP_FAILED)
@@ -160,34 +158,40 @@ static u8 *memory_to_read(u64 size)
 	return memory;
 }
 
-/* What a STATX told: a kind, and the size of a file. */
-static void keep_told(struct entry *entry)
+u64 filled_by(const struct entry *entry)
 {
-	const struct statx *told = (const void *)read_into[entry->place];
-	bool is_directory = S_ISDIR(told->stx_mode);
-	u64 size = is_directory ? 0 : told->stx_size;
+	u64 asked = asked_of(entry);
 
-	entry->data_length = 1 + sizeof size;
-	entry->data[0] = is_directory ? KIND_DIRECTORY : KIND_FILE;
-	memcpy(entry->data + 1, &size, sizeof size);
+	if (!entry->is_expected)
+		return asked;
+	return entry->expected < 0 ? 0 : min64((u64)entry->expected, asked);
 }
 
-/* A silent read brought all that it asked for, where the answers say that it did. */
-void keep_data(struct entry *entry)
+/* Memory that an entry reads into. A great mapping takes no memory but for what is read. */
+static void read_into_memory(struct entry *entry)
 {
-	bool is_silent = entry->state == ENTRY_SILENT;
+	u64 size = asked_of(entry);
 
-	if (!read_into[entry->place] || (is_silent && !entry->is_expected))
-		return;
-	if (is_stat(entry->sqe[0])) {
-		if (is_silent || !entry->result)
-			keep_told(entry);
+	entry->is_folded = false;
+	if (size <= GREAT && arenas[arena_number].used + size < ARENA) {
+		entry->into = memory_of(size);
 		return;
 	}
-	if (!is_silent && entry->result <= 0)
-		return;
-	entry->data_length = is_silent ? asked_of(entry) : (u64)entry->result;
-	memcpy(entry->data, read_into[entry->place], min64(entry->data_length, DATA_SHOWN));
+	entry->great = filled_by(entry);
+	entry->is_folded = options.no_sums || great_bytes + entry->great > MOST_GREAT + MOST_MOVED;
+	if (entry->is_folded)
+		entry->great = 0;
+	entry->into = entry->is_folded ? fold(size) : map_for_now(size + PAGE);
+	great_bytes += entry->great;
+}
+
+void let_read_go(struct entry *entry)
+{
+	if (entry->great)
+		madvise(entry->into, asked_of(entry), MADV_DONTNEED);
+	great_bytes -= entry->great;
+	entry->great = 0;
+	entry->into = NULL;
 }
 
 /* --- Fields -------------------------------------------------------------------------------------
@@ -240,9 +244,8 @@ static void fill_vectors(struct entry *entry, struct io_uring_sqe *sqe)
 	}
 	struct iovec *vectors = (void *)memory_of(count * sizeof *vectors);
 	if (sqe->opcode == OP_READV)
-		read_into[entry->place] = memory_to_read(asked);
-	u64 first = address_of(sqe->opcode == OP_READV ? read_into[entry->place]
-						       : bytes_written(entry));
+		read_into_memory(entry);
+	u64 first = address_of(sqe->opcode == OP_READV ? entry->into : bytes_written(entry));
 	for (u64 it = 0; it < count; it++) {
 		u64 length = number_at(entry->side + 8 * it, 8);
 		vectors[it] = (struct iovec){ (void *)(uintptr_t)(first + at), length };
@@ -252,17 +255,20 @@ static void fill_vectors(struct entry *entry, struct io_uring_sqe *sqe)
 }
 
 /* Addresses move as their buffer does, so that those outside of it stay outside. */
-static void fill_fixed(const struct entry *entry, struct io_uring_sqe *sqe)
+static void fill_fixed(struct entry *entry, struct io_uring_sqe *sqe)
 {
-	const struct ring_of_trace *ring = &trace.rings[entry->ring];
+	const struct buffer *it = buffer_of(entry);
 
-	if (sqe->buf_index >= ring->buffer_count)
+	if (!it)
 		return;
-	const struct buffer *it = &ring->buffers[sqe->buf_index];
-	sqe->addr = sqe->addr - it->address + address_of(it->memory);
+	u64 from = sqe->addr - it->address;
+	sqe->addr = from + address_of(it->memory);
+	if (sqe->opcode == OP_READ_FIXED && from <= it->length &&
+	    asked_of(entry) <= it->length - from)
+		entry->into = it->memory + from;
 }
 
-static void fill_paths(const struct entry *entry, struct io_uring_sqe *sqe)
+static void fill_paths(struct entry *entry, struct io_uring_sqe *sqe)
 {
 	i32 from = (i32)number_at(entry->sqe + 4, 4), to = (i32)sqe->len;
 
@@ -273,8 +279,8 @@ static void fill_paths(const struct entry *entry, struct io_uring_sqe *sqe)
 		sqe->len = (u32)to;
 	}
 	if (is_stat(sqe->opcode)) {
-		read_into[entry->place] = memory_of(sizeof(struct statx));
-		sqe->addr2 = address_of(read_into[entry->place]);
+		entry->into = memory_of(sizeof(struct statx));
+		sqe->addr2 = address_of(entry->into);
 	}
 	if (sqe->opcode == OP_OPENAT)
 		sqe->len = MODE_OF_FILES;
@@ -355,8 +361,8 @@ void fill_entry(struct entry *entry, struct io_uring_sqe *sqe)
 	if (!(sqe->flags & FLAG_FIXED) && !(opcode == OP_CLOSE && sqe->file_index))
 		sqe->fd = number_of(sqe->fd);
 	if (opcode == OP_READ) {
-		read_into[entry->place] = memory_to_read(asked_of(entry));
-		sqe->addr = address_of(read_into[entry->place]);
+		read_into_memory(entry);
+		sqe->addr = address_of(entry->into);
 	} else if (opcode == OP_WRITE) {
 		sqe->addr = address_of(bytes_written(entry));
 	} else if (opcode == OP_READV || opcode == OP_WRITEV) {

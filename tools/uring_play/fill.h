@@ -19,8 +19,13 @@ enum { MODE_OF_FILES = 0644 };
 u32 kept_open_flags(u32 flags);
 /* The bytes that a WRITE or WRITEV brings. */
 const u8 *bytes_written(const struct entry *entry);
-/* Keeps the first bytes that a played read brought. */
-void keep_data(struct entry *entry);
+/* How many bytes a read fills: by the answers, or else as many as it asks for. */
+u64 filled_by(const struct entry *entry);
+/* So many bytes of great reads may be in flight before another one waits, or is cut from its chain;
+ * it has MOST_MOVED of them at most. */
+#define MOST_GREAT (1ULL << 28)
+/* Lets go of what an entry read into, once it has been looked at. */
+void let_read_go(struct entry *entry);
 /* Whether so much of what is held is in use that no more entries should be filled with it, where
  * that can wait; and whether there is more to be held. */
 bool is_crowded(void);

@@ -65,6 +65,7 @@ static const char help[] =
 	"      --lacking OPCODE    taken as one that the kernel lacks; may be given again\n"
 	"      --no-nodes          no file is held, and no node is told\n"
 	"      --no-limit          files may have more than 2^40 bytes\n"
+	"      --no-read-sums      no sum of what a read brought is told\n"
 	"      --raw               entries are played as they stand, with the fields that the\n"
 	"                          profile does not look at (without --expected; needs chroot)\n"
 	"  -h, --help              this text\n"
@@ -74,7 +75,7 @@ static const char help[] =
 	"invalid command line, 77 where the system does not give what a play needs, and 3 for\n"
 	"any other fault.\n";
 
-enum word { PREPARE = 256, PREPARED, LACKING, NO_NODES, NO_LIMIT, RAW, VERSION };
+enum word { PREPARE = 256, PREPARED, LACKING, NO_NODES, NO_LIMIT, NO_READ_SUMS, RAW, VERSION };
 
 static const struct option long_options[] = {
 	{ "directory", required_argument, NULL, 'd' },
@@ -95,6 +96,7 @@ static const struct option long_options[] = {
 	{ "lacking", required_argument, NULL, LACKING },
 	{ "no-nodes", no_argument, NULL, NO_NODES },
 	{ "no-limit", no_argument, NULL, NO_LIMIT },
+	{ "no-read-sums", no_argument, NULL, NO_READ_SUMS },
 	{ "raw", no_argument, NULL, RAW },
 	{ "help", no_argument, NULL, 'h' },
 	{ "version", no_argument, NULL, VERSION },
@@ -125,6 +127,8 @@ static bool *switch_of(int word)
 		return &options.no_nodes;
 	case NO_LIMIT:
 		return &options.no_limit;
+	case NO_READ_SUMS:
+		return &options.no_sums;
 	case RAW:
 		return &options.raw;
 	default:

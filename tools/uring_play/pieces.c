@@ -1,5 +1,6 @@
 #include "pieces.h"
 #include "apart.h"
+#include "brought.h"
 #include "calls.h"
 #include "chains.h"
 #include "fill.h"
@@ -176,6 +177,7 @@ void look_at(struct entry *entry)
 		if (may_make_a_node(entry))
 			learn(entry);
 	}
+	let_read_go(entry);
 	counts.played += is_played;
 	counts.unplayed += !is_played;
 	counts.given += entry->is_given;
@@ -259,6 +261,17 @@ bool is_silent_long(const struct piece *piece, u64 time)
 	return may_be_over && time - piece->heard_at >= SILENCE;
 }
 
+/* Where a later member read over what an earlier one did, no sum of that is known. By the answers
+ * none does (chains.c). */
+static void drop_overwritten(struct entry *first, u32 count)
+{
+	forget_stretches();
+	for (u32 at = count; at-- > 0;) {
+		if (reads_over(&first[at], most_moved(&first[at])))
+			let_read_go(&first[at]);
+	}
+}
+
 void end_piece(struct piece *piece)
 {
 	struct entry *first = piece->first;
@@ -268,6 +281,7 @@ void end_piece(struct piece *piece)
 		if (first[at].state == ENTRY_UNPLAYED)
 			first[at].state = ENTRY_SILENT;
 	}
+	drop_overwritten(first, piece->count);
 	for (u32 at = 0; at < piece->count; at++)
 		look_at(&first[at]);
 	let_memory_go(piece->memory);

@@ -6,7 +6,7 @@
 
 /* What came of it, for the summary. */
 struct counts {
-	u64 played, unplayed, given, mended, unsaid;
+	u64 played, unplayed, given, mended, unsaid, unsummed;
 	double seconds;
 };
 extern struct counts counts;

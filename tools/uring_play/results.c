@@ -1,10 +1,10 @@
 #include "results.h"
 #include "apart.h"
+#include "brought.h"
 #include "entry.h"
 #include "nodes.h"
 #include "numbers.h"
 #include "rings.h"
-#include "sha256.h"
 #include "trace.h"
 #include "tree.h"
 #include "watch.h"
@@ -15,8 +15,6 @@
 #include <stdlib.h>
 #include <string.h>
 #include <unistd.h>
-
-enum { CHUNK = 1 << 20 };
 
 static void write_entry(FILE *file, const struct entry *entry)
 {
@@ -35,6 +33,8 @@ static void write_entry(FILE *file, const struct entry *entry)
 		fprintf(file, "%02x", entry->data[at]);
 	if (entry->data_length > DATA_SHOWN)
 		fputc('+', file);
+	if (entry->sum)
+		fprintf(file, " data-sum=%s", entry->sum);
 	fprintf(file, " op=%u", entry->sqe[0]);
 	if (entry->apart != NOT_APART)
 		fprintf(file, " outside=%s", apart_words[entry->apart]);
@@ -118,15 +118,9 @@ static void write_slots(FILE *file)
 
 static void write_buffer(FILE *file, const struct buffer *it)
 {
-	struct sha256 sum;
 	char text[SHA256_TEXT];
 
-	sha256_begin(&sum);
-	for (u64 at = 0; at < it->length; at += CHUNK) {
-		sha256_add(&sum, it->memory + at, min64(CHUNK, it->length - at));
-		go_on();
-	}
-	sha256_end(&sum, text);
+	sum_bytes(it->memory, it->length, text);
 	fprintf(file, "len=%u sum=%s\n", it->length, text);
 }
 

@@ -37,6 +37,8 @@ struct buffer {
 	u64 address;
 	u32 length;
 	u8 *memory;
+	u64 low, high; /* what some entries read into lies between (brought.h) */
+	u64 stretch;   /* which these are */
 };
 enum holder_kind { OF_SLOT, OF_DESCRIPTOR, OF_START };
 /* A slot of a ring, a descriptor, or a description of the start. */
@@ -110,14 +112,18 @@ struct entry {
 	bool is_expected;	 /* the report tells of it */
 	bool is_posted_expected; /* with a completion that is posted */
 	bool is_submitted;
-	i32 expected; /* the result by the report */
+	bool is_folded; /* its bytes were too many to be kept beside others */
+	i32 expected;	/* the result by the report */
 	enum state state;
 	enum apart apart;
 	i32 result;
 	struct piece *piece;	  /* in which it is in flight */
 	u64 submitted, completed; /* nanoseconds from the start of the play */
+	u8 *into;		  /* what it reads into, while it is in flight */
+	u64 great;		  /* how many bytes of a mapping of its own it may fill then */
 	u8 data[DATA_SHOWN + 1];
 	u64 data_length;
+	char *sum; /* of the bytes that it read, where it is told */
 };
 struct record {
 	u8 kind;
