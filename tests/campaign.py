@@ -13,6 +13,7 @@ from typing import Dict, List, Optional, Sequence, Set, Tuple
 
 import flight
 import play
+import play_reads
 import record_traces
 from by_models import MODELS
 from harness import EXAMPLES, TOP, Answer, Job, Outcome, Program, first, read, shown, skipped
@@ -20,7 +21,7 @@ from model import World
 from mounted import Passthrough
 from player import Player
 from record_traces import DESCRIPTION, DESCRIPTOR, SLOT, stored
-from traces import AT_FDCWD, DRAIN, FIXED_FILE, LINK, NOP, OPENAT, READ, WRITE, description, entry
+from traces import AT_FDCWD, DRAIN, FIXED_FILE, LINK, NOP, OPENAT, READ, WRITE, description, entry, sums_option
 
 sys.path.append(os.path.join(TOP, "tools", "shared"))
 import trace_parts
@@ -80,7 +81,7 @@ def least(player: Player, program: Program) -> List[Outcome]:
             outcomes.append(Outcome("uring_minimise: {}".format(name), shown(got)))
             continue
         text = written.get("trace", b"")
-        is_well = places_in(program, text) == 1 and program.run(["serial", "--sums"], text).output == written["report"] and got.output.startswith(b"kept: WRITE N posted -> ")
+        is_well = places_in(program, text) == 1 and program.run(["serial", sums_option(text)], text).output == written["report"] and got.output.startswith(b"kept: WRITE N posted -> ")
         again = program.run(["diff"], written["report"] + written["played"])
         is_well = is_well and again.status == 4 and again.output == written["diff"]
         outcomes.append(Outcome("uring_minimise: {}".format(name), None if is_well else "{} {!r}".format(shown(got), written)))
@@ -163,6 +164,22 @@ def raced(player: Player, program: Program) -> List[Outcome]:
     places = places_in(program, written["trace"]) if "trace" in written else 0
     is_well = got.status == 0 and 2 <= places < FEW and got.output.startswith(b"kept: file\n") and b" 1 different" in written["diff"]
     return [Outcome(name, None if is_well else "{} places, {}".format(places, shown(got)))]
+
+
+def corrupted(player: Player, program: Program) -> List[Outcome]:
+    """A file system that changes bytes behind the 32nd of a read: of each trace three entries are left at most, among them the read."""
+    outcomes = []
+    with Passthrough(["corrupt"]) as there:
+        for it in play_reads.corrupted_traces():
+            name = "uring_minimise: wrong bytes of {}".format(it.name)
+            if there.lacking or b" data-sum=" not in program.run(["serial", sums_option(it.trace)], it.trace).output:
+                outcomes += skipped(name, there.lacking or "the report has no sums of reads")
+                continue
+            got, written = minimised(player, program, it.trace, ["--directory", there.mount])
+            entries = [step.opcode for _, _, _, step in trace_parts.parts_of(written["trace"]).entries()] if "trace" in written else []
+            is_well = got.status == 0 and it.opcode in entries and places_in(program, written["trace"]) <= 3 and b" equal, 1 different" in written["diff"].split(b"\nentries ")[1]
+            outcomes.append(Outcome(name, None if is_well else "{} {}".format(entries, shown(got))))
+    return outcomes
 
 
 def refusals(player: Player, program: Program) -> List[Outcome]:
@@ -370,6 +387,6 @@ def jobs(programs: List[Program]) -> List[Job]:
     lacking = player.lacking() or player.lacking_in_system(play.TRACE)
     if lacking:
         return [lambda: skipped("the tools that look for differences", lacking)]
-    found: List[Job] = [partial(it, player, program) for it in (least, raced, refusals, collected, campaign_words, over_lower)]
+    found: List[Job] = [partial(it, player, program) for it in (least, raced, corrupted, refusals, collected, campaign_words, over_lower)]
     found += [partial(least_of_version_3, player), partial(least_of_sets, player), partial(in_parts, range(200))]
     return found + [partial(by_parallel, player, program, it) for it in ("parallel", "xargs")]

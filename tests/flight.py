@@ -16,7 +16,7 @@ from mounted import Passthrough
 from play_drawing import Wide, WideRecords
 from player import UNTRIED, Player, against
 from traces import AT_FDCWD, CLOSE, DRAIN, FIXED_FILE, HARDLINK, LINK, MKDIRAT, NOP, OPENAT, READ, SKIP, WRITE
-from traces import description, enter, entry, fill, file, head, ring
+from traces import description, enter, entry, fill, file, head, ring, sums_option
 
 # A race has to be found in so many of so many plays.
 PLAYS, FOUND = 10, 9
@@ -63,7 +63,7 @@ def passed_through(player: Player, program: Program, words: Sequence[str]) -> Li
     with Passthrough(words) as there:
         if there.lacking:
             return skipped(name, there.lacking)
-        each = [player.compared(by, it, by.run(["serial", "--sums"], it).output, mode, there.mount) for by, it in traces for mode in ("chains", "flight")]
+        each = [player.compared(by, it, by.run(["serial", sums_option(it)], it).output, mode, there.mount) for by, it in traces for mode in ("chains", "flight")]
     return [Outcome(name, first([it.fault for it in each if it.fault]), first([it.untried for it in each if it.untried]))]
 
 
@@ -72,7 +72,7 @@ def much(player: Player, program: Program, kind: Type[Wide], seeds: range) -> Li
     faults, entries, outside = [], 0, 0
     for seed in seeds:
         trace = kind(seed).trace()
-        report, place = program.run(["serial", "--sums"], trace).output, player.directories()[seed % len(player.directories())]
+        report, place = program.run(["serial", sums_option(trace)], trace).output, player.directories()[seed % len(player.directories())]
         found = player.compared(program, trace, report, "flight", place)
         faults += ["wide {} in {}: {}".format(seed, place, found.fault)] if found.fault else []
         entries, outside = entries + sum(found.counts["entries"]), outside + found.counts["entries"][2]
@@ -106,7 +106,7 @@ def crowded(player: Player, program: Program, seed: int) -> List[Outcome]:
     """Queues that fill and empty, at any number in flight: no completion is lost, and none differs."""
     source = random.Random(seed)
     trace = crowd(source, *source.choice(((1, 150, 40), (3, 150, 7), (64, 200, 3))))
-    report, outcomes = program.run(["serial", "--sums"], trace).output, []
+    report, outcomes = program.run(["serial", sums_option(trace)], trace).output, []
     for number, words in ((1, []), (3, ["--async"]), (64, []), (4096, ["--async"])):
         found = player.compared(program, trace, report, "flight", player.directories()[seed % len(player.directories())], ["--in-flight", str(number), *words])
         outcomes.append(Outcome("flight: full queues {}, {} in flight".format(seed, number), found.fault, found.untried))

@@ -1,4 +1,4 @@
-/* A file system in user space that passes everything on to a folder: cc -pthread -o passthrough passthrough.c; ./passthrough FOLDER MOUNT [writeback] [cached] [slow] [planted]
+/* A file system in user space that passes everything on to a folder: cc -pthread -o passthrough passthrough.c; ./passthrough FOLDER MOUNT [writeback] [cached] [slow] [planted] [corrupt]
  *
  * It speaks the protocol of /dev/fuse (linux/fuse.h) itself, on eight threads, and needs no library. It says `mounted` once it is, and ends where it is
  * unmounted or its standard input ends.
@@ -6,7 +6,9 @@
  * writeback: the kernel keeps what is written, and sends it later. cached: it keeps names and attributes for a second.
  * slow: each look-up of a name takes two milliseconds, for which an open holds its number.
  * planted: two files share a block. A write to one of them reads what the other one has, sleeps, writes, and writes back what it has read; so a write to
- * the other one in between is lost. */
+ * the other one in between is lost.
+ * corrupt: the last byte of a read of 33 to 4,096 bytes is another one. The kernel keeps nothing of what is read, so that a read of more brings what is
+ * there. */
 #define _GNU_SOURCE
 #include <dirent.h>
 #include <errno.h>
@@ -24,7 +26,7 @@
 #include <sys/uio.h>
 #include <unistd.h>
 
-enum { THREADS = 8, MOST_WRITTEN = 1 << 20, ROOM = MOST_WRITTEN + (1 << 16), MOST_SHARED = 4096, NODES = 1 << 16 };
+enum { THREADS = 8, MOST_WRITTEN = 1 << 20, ROOM = MOST_WRITTEN + (1 << 16), MOST_SHARED = 4096, LEAST_CORRUPT = 33, MOST_CORRUPT = 4096, NODES = 1 << 16 };
 
 /* A node that the kernel knows, by its number: an O_PATH descriptor. */
 struct node {
@@ -37,7 +39,7 @@ static struct node nodes[NODES];
 static uint64_t node_count = FUSE_ROOT_ID + 1;
 static pthread_mutex_t lock = PTHREAD_MUTEX_INITIALIZER;
 static int fuse, folder;
-static bool is_writeback, is_cached, is_slow, is_planted;
+static bool is_writeback, is_cached, is_slow, is_planted, is_corrupt;
 static const char *mount_point;
 
 struct request {
@@ -161,12 +163,18 @@ static int flags_of(uint32_t flags)
     return is_writeback && (kept & O_ACCMODE) == O_WRONLY ? (kept & ~O_ACCMODE) | O_RDWR : kept;
 }
 
+/* How the kernel reads what is open. */
+static uint32_t open_flags(void)
+{
+    return is_corrupt ? FOPEN_DIRECT_IO : 0;
+}
+
 static void open_file(const struct request *it)
 {
     const struct fuse_open_in *in = it->body;
     char path[32];
     int file = open(path_of(node_of(it)->file, path), flags_of(in->flags) | O_CLOEXEC);
-    struct fuse_open_out out = { .fh = (uint64_t)file };
+    struct fuse_open_out out = { .fh = (uint64_t)file, .open_flags = open_flags() };
 
     if (file < 0)
         answer(it, -1);
@@ -187,7 +195,7 @@ static void create_file(const struct request *it)
     if (file < 0) {
         answer(it, -1);
     } else if (enter(it, name, &out.entry)) {
-        out.open.fh = (uint64_t)file;
+        out.open = (struct fuse_open_out){ .fh = (uint64_t)file, .open_flags = open_flags() };
         reply(it, 0, &out, sizeof out);
     }
 }
@@ -195,9 +203,11 @@ static void create_file(const struct request *it)
 static void read_file(const struct request *it)
 {
     const struct fuse_read_in *in = it->body;
-    void *bytes = malloc(in->size);
+    unsigned char *bytes = malloc(in->size);
     ssize_t done = pread((int)in->fh, bytes, in->size, (off_t)in->offset);
 
+    if (is_corrupt && done >= LEAST_CORRUPT && in->size <= MOST_CORRUPT)
+        bytes[done - 1] ^= 1;
     if (done < 0)
         answer(it, -1);
     else
@@ -518,10 +528,11 @@ int main(int count, char **words)
         is_cached |= !strcmp(words[at], "cached");
         is_slow |= !strcmp(words[at], "slow");
         is_planted |= !strcmp(words[at], "planted");
+        is_corrupt |= !strcmp(words[at], "corrupt");
     }
     folder = count < 3 ? -1 : open(words[1], O_RDONLY | O_DIRECTORY | O_CLOEXEC);
     if (folder < 0 || fstat(folder, &status)) {
-        fprintf(stderr, "passthrough FOLDER MOUNT [writeback] [cached] [slow] [planted]\n");
+        fprintf(stderr, "passthrough FOLDER MOUNT [writeback] [cached] [slow] [planted] [corrupt]\n");
         return 2;
     }
     umask(0);

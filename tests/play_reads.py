@@ -5,11 +5,12 @@ from hashlib import sha256
 from typing import Callable, Dict, List, NamedTuple, Sequence
 
 import record_traces
-from harness import Job, Outcome, Program, first, shown
-from player import MODES, Player, against
+from harness import Job, Outcome, Program, first, shown, skipped
+from mounted import Passthrough
+from player import MODES, SECTIONS, Player, against
 from model import AT_POSITION
 from traces import FIXED_FILE, HARDLINK, LINK, NOP, READ, READ_FIXED, READV, SKIP, WRITE, WRITE_FIXED
-from traces import description, enter, entry, file, fill, head, ring
+from traces import description, enter, entry, file, fill, head, ring, sums_option
 
 CONTENT = bytes((7 * at + at // 256) % 251 for at in range(1_000))
 AT = 4096
@@ -31,8 +32,8 @@ def vectors(lengths: Sequence[int], offset: int = 0, flags: int = 0) -> bytes:
     return slot(READV, flags, offset, len(lengths), side=struct.pack("<{}Q".format(len(lengths)), *lengths))
 
 
-def of_one_file(records: Sequence[bytes], buffers: Sequence = ((AT, 4096),)) -> bytes:
-    return head(1, 1, 1, len(records)) + file(b"/a", len(CONTENT), CONTENT) + description(1) + ring([1], buffers) + b"".join(records)
+def of_one_file(records: Sequence[bytes], size: int = len(CONTENT)) -> bytes:
+    return head(1, 1, 1, len(records)) + file(b"/a", size, CONTENT) + description(1) + ring([1], [(AT, 4096)]) + b"".join(records)
 
 
 def lengths() -> Case:
@@ -107,7 +108,7 @@ def sums_of(results: bytes) -> Dict[int, str]:
 def told(player: Player, program: Program, made: Callable[[], Case], modes: Sequence[str] = MODES) -> List[Outcome]:
     """Each sum is that of the bytes, in each way to play, and nothing else differs."""
     case = made()
-    report = program.run(["serial", "--sums"], case.trace).output
+    report = program.run(["serial", sums_option(case.trace)], case.trace).output
     wanted, outcomes = {place: sha256(it).hexdigest() for place, it in case.wanted.items()}, []
     for mode in modes:
         got = player.played(program, case.trace, report, mode, player.directories()[-1])
@@ -139,13 +140,61 @@ def left_out(player: Player, program: Program) -> List[Outcome]:
     outcomes = []
     for made in (lengths, read_over):
         case = made()
-        report = program.run(["serial", "--sums"], case.trace).output
+        report = program.run(["serial", sums_option(case.trace)], case.trace).output
         got = player.steered(case.trace, report, ["--no-read-sums"])
         fault = against(program, report, got).fault or (None if not sums_of(got.output) else shown(got))
         outcomes.append(Outcome("the player: --no-read-sums with {}".format(made.__name__.replace("_", " ")), fault))
     return outcomes
 
 
+# --- Wrong bytes behind the 32nd --------------------------------------------------------------------------------------
+
+class Corrupted(NamedTuple):
+    """A trace of which a file system that changes the last byte of each read of 33 to 4,096 bytes (tests/passthrough.c) has one read wrong: its place and
+    opcode, and the bytes that are right. No other line shows it."""
+
+    name: str
+    trace: bytes
+    place: int
+    opcode: int
+    right: bytes
+
+
+def among_others(name: str, opcode: int, wrong: bytes, right: bytes, after: Sequence[bytes] = ()) -> Corrupted:
+    """Behind reads of few bytes and of many, and before others."""
+    few = [slot(READ, 0, 5, 32), vectors([16, 16], 7), slot(READ_FIXED, 0, 9, 32, address=AT), slot(WRITE, 0, 2_000, 5, side=b"wrote"), slot(READ, length=5_000)]
+    records = [enter(0, [*few, wrong]), *after, enter(0, few)]
+    return Corrupted(name, of_one_file(records, 10_000), len(few), opcode, right)
+
+
+def corrupted_traces() -> List[Corrupted]:
+    """A READ; a READV, of which it is the third vector; and a READ_FIXED whose bytes a read of few and a fill write over."""
+    over = [enter(0, [slot(READ_FIXED, 0, 1, 20, address=AT + 64)]), fill(0, 0, 84, b"filled over it" * 4)]
+    return [among_others("a READ", READ, slot(READ, LINK, 100, 100), CONTENT[100:200]),
+            among_others("the third vector of a READV", READV, vectors([20, 12, 9], 200), CONTENT[200:241]),
+            among_others("a READ_FIXED that is written over", READ_FIXED, slot(READ_FIXED, 0, 300, 40, address=AT + 64), CONTENT[300:340], over)]
+
+
+def corrupted(player: Player, program: Program) -> List[Outcome]:
+    """The sum of that read alone is another one than that of the right bytes. A report with sums differs from the play in it, and in nothing else."""
+    outcomes = []
+    with Passthrough(["corrupt"]) as there:
+        if there.lacking:
+            return skipped("the player: wrong bytes behind the 32nd", there.lacking)
+        for it in corrupted_traces():
+            report = program.run(["serial", sums_option(it.trace)], it.trace).output
+            differing = [int(b" data-sum=" in report), 0, 0, 0]
+            for mode in MODES:
+                got = player.played(program, it.trace, report, mode, there.mount)
+                found, sums = against(program, report, got), sums_of(got.output)
+                counts = [found.counts[section][1] for section in SECTIONS]
+                wrong = it.right[:-1] + bytes([it.right[-1] ^ 1])
+                fault = None if sums.get(it.place) == sha256(wrong).hexdigest() and counts == differing else "{} {}".format(counts, shown(got))
+                outcomes.append(Outcome("the player: wrong bytes behind the 32nd of {} in {}".format(it.name, mode), fault, found.untried))
+    return outcomes
+
+
 def jobs(player: Player, program: Program) -> List[Job]:
     each: List[Job] = [partial(told, player, program, it) for it in (lengths, silent, read_over)]
-    return [*each, partial(told, player, program, great), partial(told, player, program, greater, ("chains", "flight")), partial(as_it_stands, player), partial(left_out, player, program)]
+    return [*each, partial(told, player, program, great), partial(told, player, program, greater, ("chains", "flight")), partial(as_it_stands, player), partial(left_out, player, program),
+            partial(corrupted, player, program)]

@@ -19,6 +19,11 @@ def head(items: int = 0, descriptions: int = 0, rings: int = 0, records: int = 0
     return struct.pack("<8s6I", b"URINGTRC", version, items, descriptions, rings, records, table)
 
 
+def sums_option(trace: bytes) -> str:
+    """The option of `serial` and `run` with which a report has the sums of reads: of version 3 of the trace --sums has them."""
+    return "--sums" if trace[8:12] == struct.pack("<I", 3) else "--all-sums"
+
+
 def directory(path: bytes) -> bytes:
     return struct.pack("<BH", 1, len(path)) + path
 

@@ -5,6 +5,8 @@ import subprocess
 import tempfile
 from typing import Dict, List, NamedTuple, Optional, Sequence
 
+from traces import sums_option
+
 # How a trace is played: one chain at a time; in rounds; in rounds, in threads of the kernel's; in flight, in threads.
 MODES = ("chains", "rounds", "threads", "flight")
 SECTIONS = ("entries", "tree", "slots", "buffers")
@@ -98,7 +100,7 @@ class Lab:
 
     def answers(self, trace: bytes) -> Optional[bytes]:
         """The report of a trace, or None where it is refused."""
-        got = ran([self.replayer, "serial", "--sums"], trace)
+        got = ran([self.replayer, "serial", sums_option(trace)], trace)
         if got.returncode not in (0, 1):
             raise Failed(got.stderr.decode("utf-8", "replace").strip())
         return None if got.returncode else got.stdout
