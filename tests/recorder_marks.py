@@ -36,6 +36,7 @@ MODES = (
     Mode("passed_on", ["opcode", "descriptor"], ["opcode", "descriptor"], equal=6),
     Mode("beyond", ["descriptor"], ["descriptor"], ["changed"], 6),
     Mode("alike", ["opcode", "user"], ["opcode"], ["order"], 6),
+    Mode("alike_given", ["user", "descriptor"], marks_of_3=["user", "chain"], equal=1),
     Mode("unseen", ["descriptor", "chain"], ["descriptor"], ["unseen"], 5),
     Mode("many_completions", ["opcode"], ["opcode"], equal=3),
     Mode("refused", ["system", "memory", "flags", "polled"], ["system", "memory", "flags", "polled"], equal=5),

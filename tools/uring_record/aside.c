@@ -96,16 +96,6 @@ static bool is_behind_taker(const struct entry *entry)
 	       (u32)(entry - record->entries) >= record->taker;
 }
 
-/* Something that is no file of the tree. */
-static struct opened *new_unknown(void)
-{
-	struct opened *opened = allocate(sizeof *opened);
-
-	opened->holders = 1;
-	opened->descriptor = -1;
-	return opened;
-}
-
 /* OPENAT2: which file it opens. */
 static void look_at_openat2(struct flight *flight, pid_t thread)
 {

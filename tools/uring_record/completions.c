@@ -243,7 +243,7 @@ static void completed(struct flight *flight, pid_t thread, i32 result, bool is_f
 	else if (entry->is_aside)
 		;
 	else if (opcode == OP_OPENAT && !entry->sqe.file_index)
-		number_opened(flight->process, result, is_doubtful(entry));
+		number_opened(flight->process, result, is_doubtful(entry) || flight->is_unsure);
 	else if (opcode == OP_OPENAT && flight->used)
 		look_at_direct(flight->used);
 	if (flight->moves && !entry->is_aside)
@@ -263,6 +263,7 @@ static void completion_came(struct ring *ring, pid_t thread, const struct io_uri
 		note("a completion of no entry that is known", NULL);
 		return;
 	}
+	flight->is_unsure = !is_sure;
 	completed(flight, thread, cqe->res, is_fresh && is_sure);
 	if (cqe->flags & IORING_CQE_F_MORE) {
 		note("an entry with several completions: the last one is recorded", flight->entry);

@@ -1,4 +1,5 @@
 #include "flights.h"
+#include "given.h"
 #include "meetings.h"
 #include "memory.h"
 #include "notes.h"
@@ -145,24 +146,140 @@ bool is_updating(const struct ring *ring, u32 slot)
 	return false;
 }
 
-void mark_alike(struct entry *entry)
+/* Whether an entry that asks for so many bytes may have a result, as far as its opcode tells. */
+static bool may_give(const struct io_uring_sqe *sqe, u64 asked, i32 result)
+{
+	bool is_chosen = !sqe->file_index || sqe->file_index == IORING_FILE_INDEX_ALLOC;
+
+	if (sqe->opcode == OP_NOP && !sqe->rw_flags)
+		return result == 0 || result == -ECANCELED;
+	if (result < 0 || !is_served(sqe->opcode) || sqe->opcode == OP_NOP)
+		return sqe->opcode != IORING_OP_TIMEOUT || result <= 0;
+	if (moves_bytes(sqe->opcode))
+		return (u64)result <= asked;
+	return result == 0 || (sqe->opcode == OP_OPENAT && is_chosen);
+}
+
+/* What an entry asked for and may have changed whose result may be another's. */
+struct changes {
+	struct io_uring_sqe asked_for;
+	u64 asked;
+	struct opened *files[2];
+	char *names[2];
+	struct ring *ring; /* whose slot, from 1, it may have filled or emptied */
+	u32 slot;
+	u64 sequence, renewals;
+};
+
+/* Keeps it while the flight is there. */
+static struct changes *changes_of(const struct flight *flight)
+{
+	struct changes *changes = allocate(sizeof *changes);
+	u32 names = 0;
+
+	*changes = (struct changes){ .asked_for = flight->asked_for,
+				     .asked = flight->asked,
+				     .ring = flight->ring,
+				     .sequence = flight->sequence,
+				     .renewals = flight->renewals };
+	changes->slot = flight->takes_place ? flight->slot : 0;
+	for (u32 at = 0; at < flight->touch_count; at++) {
+		const struct touch *touch = &flight->touches[at];
+		if (touch->kind == TOUCH_FILE && touch->writes && !changes->files[0])
+			changes->files[0] = hold(touch->file);
+		if (touch->kind == TOUCH_NAME && touch->writes && names < 2)
+			changes->names[names++] =
+				copy_bytes((const char *)touch->path, touch->length);
+	}
+	changes->files[1] = flight->changes ? hold(flight->changes) : NULL;
+	return changes;
+}
+
+/* Lets go of it; where there is a reason, it is not told from here on what is there. */
+static void leave_changes(struct changes *changes, enum outside why)
+{
+	bool is_marked = why != INSIDE;
+
+	for (u32 at = 0; at < 2; at++) {
+		struct opened *file = changes->files[at];
+		const char *name = changes->names[at];
+		if (is_marked && file) {
+			look_at_direct(file);
+			unsettle(file, why);
+		}
+		if (is_marked && name)
+			doubt_name((const u8 *)name, (u32)strlen(name), why);
+		release(file);
+		free(changes->names[at]);
+	}
+	if (is_marked && changes->slot)
+		slot_is_unknown(changes->ring, changes->slot - 1, changes->sequence,
+				changes->renewals);
+	free(changes);
+}
+
+/* The same of what an entry keeps. */
+static void leave_changes_of(struct entry *entry, enum outside why)
+{
+	if (entry->changes)
+		leave_changes(entry->changes,
+			      entry->is_left && why == INSIDE ? OUTSIDE_CHAIN : why);
+	entry->changes = NULL;
+}
+
+/* The next member of the chain of an entry, or NULL. */
+static struct entry *next_member(struct entry *entry)
+{
+	struct entry *end = entry->record->entries + entry->record->count;
+
+	return goes_on(&entry->sqe) && entry + 1 < end ? entry + 1 : NULL;
+}
+
+/* Lets go of an entry that may have had another's result, and of those behind it in its chain. */
+static void leave_alike_one(struct entry *entry, bool is_marked)
+{
+	struct entry *head = entry->head, *next = next_member(entry);
+
+	entry->is_alike = false;
+	leave_changes_of(entry, is_marked ? OUTSIDE_USER : INSIDE);
+	bool is_first = head->alike_from == entry;
+	/* (those behind one that is marked are left once, and others when no earlier one may be) */
+	while (next && !(is_marked ? next->is_left : next->is_alike || !is_first)) {
+		next->is_left |= is_marked;
+		if (!next->is_alike)
+			leave_changes_of(next, is_marked ? OUTSIDE_CHAIN : INSIDE);
+		next = next_member(next);
+	}
+	while (is_first && next && !next->is_alike)
+		next = next_member(next);
+	if (is_first)
+		head->alike_from = next;
+}
+
+/* Lets go of entries that may have had each other's results: these are marked, or known to be one.
+ */
+static void leave_alike(struct entry *entry, bool is_marked)
 {
 	for (struct entry *next; entry; entry = next) {
 		next = entry->alike;
 		entry->alike = NULL;
-		entry->is_alike = false;
-		put_outside(entry, OUTSIDE_USER);
+		if (is_marked)
+			put_outside(entry, OUTSIDE_USER);
+		leave_alike_one(entry, is_marked);
 	}
 }
 
-/* The results of entries that may have had each other's are known to be one: none is marked. */
-static void settle_alike(struct entry *entry)
+void mark_alike(struct entry *entry)
 {
-	for (struct entry *next; entry; entry = next) {
-		next = entry->alike;
-		entry->alike = NULL;
-		entry->is_alike = false;
-	}
+	leave_alike(entry, true);
+}
+
+/* Whether an entry stands in its chain behind one that may have another's result. */
+static bool is_behind_alike(const struct entry *entry)
+{
+	const struct entry *head = entry->head;
+
+	return !entry->changes && head && head->alike_from && head->alike_from < entry;
 }
 
 /* Closes the copies that a flight has of descriptors. */
@@ -181,6 +298,8 @@ void land(struct flight *flight)
 	struct record *record = flight->entry->record;
 
 	flight->entry->is_landed = true;
+	if (is_behind_alike(flight->entry))
+		flight->entry->changes = changes_of(flight);
 	forget_spans(flight);
 	leave_chain(flight);
 	if (flight->previous)
@@ -216,21 +335,6 @@ void land(struct flight *flight)
 	}
 }
 
-/* Whether an entry may have a result, as far as its opcode tells. */
-static bool may_give(const struct flight *flight, i32 result)
-{
-	const struct io_uring_sqe *sqe = &flight->asked_for;
-	bool is_chosen = !sqe->file_index || sqe->file_index == IORING_FILE_INDEX_ALLOC;
-
-	if (sqe->opcode == OP_NOP && !sqe->rw_flags)
-		return result == 0 || result == -ECANCELED;
-	if (result < 0 || !is_served(sqe->opcode) || sqe->opcode == OP_NOP)
-		return sqe->opcode != IORING_OP_TIMEOUT || result <= 0;
-	if (moves_bytes(sqe->opcode))
-		return (u64)result <= flight->asked;
-	return result == 0 || (sqe->opcode == OP_OPENAT && is_chosen);
-}
-
 /* The next flight behind one (or from the start of its chain on) that a completion may be of. So
  * many are looked at. */
 static struct flight *next_of(struct flight *from, u64 user_data, i32 result, u32 *looks)
@@ -239,7 +343,7 @@ static struct flight *next_of(struct flight *from, u64 user_data, i32 result, u3
 		bool is_silent = is_quiet(it) && result >= 0; /* (it posts where it fails) */
 		if (it->entry->sqe.user_data != user_data)
 			continue;
-		if (!is_silent && may_give(it, result))
+		if (!is_silent && may_give(&it->asked_for, it->asked, result))
 			return it;
 		--*looks;
 	}
@@ -265,6 +369,17 @@ void give_up_alike(void)
 	}
 }
 
+/* Whether one of some entries may have a result. */
+static bool may_one_give(const struct entry *entry, i32 result)
+{
+	for (; entry; entry = entry->alike) {
+		const struct changes *its = entry->changes;
+		if (!its || may_give(&its->asked_for, its->asked, result))
+			return true;
+	}
+	return false;
+}
+
 /* A completion may be of two flights or more, and is taken for one: they are marked unless all have
  * one result. */
 static void take_for(struct flight *taken, struct flight *other, i32 result)
@@ -273,12 +388,17 @@ static void take_for(struct flight *taken, struct flight *other, i32 result)
 
 	note("a completion whose user_data several entries in flight have is taken for the first",
 	     entry);
+	if (taken->alike_result != result && !may_one_give(taken->alike, result)) {
+		leave_alike(taken->alike, false); /* (none of these has this one) */
+		taken->alike = NULL;
+	}
 	if (taken->is_mixed || is_told(entry) || (taken->alike && taken->alike_result != result) ||
 	    (other && other->alike && other->alike_result != result)) {
 		mark_alike(taken->alike);
 		mark_alike(other ? other->alike : NULL);
 		taken->alike = NULL;
 		put_outside(entry, OUTSIDE_USER);
+		leave_changes(changes_of(taken), OUTSIDE_USER);
 		if (other) {
 			other->alike = NULL;
 			other->is_mixed = true;
@@ -288,10 +408,13 @@ static void take_for(struct flight *taken, struct flight *other, i32 result)
 	entry->alike = taken->alike;
 	taken->alike = NULL;
 	if (!other || other->is_mixed) {
-		settle_alike(entry);
+		leave_alike(entry, false);
 		return;
 	}
 	entry->is_alike = true;
+	entry->changes = changes_of(taken);
+	if (!entry->head->alike_from || entry->head->alike_from > entry)
+		entry->head->alike_from = entry;
 	if (other->alike) { /* (both lists had this result) */
 		struct entry *last = entry;
 		while (last->alike)
@@ -307,13 +430,33 @@ static void take_for(struct flight *taken, struct flight *other, i32 result)
 	}
 }
 
+/* How likely an entry has a result that others may have: one that the profile has for it, before
+ * one that is given, and any other. */
+static unsigned likelihood(const struct flight *flight, i32 result)
+{
+	if (is_given(flight->entry))
+		return 1;
+	return options.format != 3 || !is_undecided(flight, result) ? 2 : 0;
+}
+
 struct flight *flight_of(struct ring *ring, u64 user_data, i32 result, bool *is_sure)
 {
 	struct flight *first = ring->by_data[chain_of(user_data)];
 	u32 looks = MOST_LOOKS;
 	struct flight *found = next_of(first, user_data, result, &looks);
 	struct flight *other = found ? next_of(found->next_same, user_data, result, &looks) : NULL;
+	unsigned likely = other ? likelihood(found, result) : 2;
+	u32 more_looks = MOST_LOOKS;
 
+	for (struct flight *it = other; it && likely < 2 && more_looks;
+	     it = next_of(it->next_same, user_data, result, &more_looks)) {
+		more_looks -= more_looks > 0;
+		if (likelihood(it, result) <= likely)
+			continue;
+		likely = likelihood(it, result);
+		other = found;
+		found = it;
+	}
 	*is_sure = found && !other && looks && !found->alike && !found->is_mixed;
 	if (found)
 		found->has_ended = !other && looks && !found->is_mixed;
@@ -321,7 +464,7 @@ struct flight *flight_of(struct ring *ring, u64 user_data, i32 result, bool *is_
 		return found;
 	for (struct flight *it = first; it && !found; it = it->next_same)
 		found = it->entry->sqe.user_data == user_data ? it : NULL;
-	if (found && (!looks || !may_give(found, result)))
+	if (found && (!looks || !may_give(&found->asked_for, found->asked, result)))
 		found->is_mixed = true;
 	if (found)
 		take_for(found, other, result);

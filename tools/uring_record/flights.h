@@ -39,6 +39,7 @@ struct flight {
 	struct entry *alike; /* entries that may have had its completion, with their result */
 	i32 alike_result;
 	u32 alike_count;
+	bool is_unsure;		       /* its result may be another's */
 	bool meets_name;	       /* another one in flight touches its name */
 	bool is_mixed;		       /* they had several results */
 	bool has_ended;		       /* so it has for sure, as has each of these */

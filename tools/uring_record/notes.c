@@ -138,7 +138,7 @@ void count_outside(const struct record *record)
 {
 	for (u32 in = 0; in < record->count; in++) {
 		const struct entry *entry = &record->entries[in];
-		u64 *counted = is_given(entry) ? counts.given : counts.outside;
+		u64 *counted = is_given(entry) && !is_ambiguous(entry) ? counts.given : counts.outside;
 		counted[reason_of(entry)]++;
 	}
 }

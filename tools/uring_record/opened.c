@@ -169,6 +169,15 @@ struct opened *new_foreign(int descriptor)
 	return let_go_of(new_opened(descriptor, 0));
 }
 
+struct opened *new_unknown(void)
+{
+	struct opened *opened = allocate(sizeof *opened);
+
+	opened->holders = 1;
+	opened->descriptor = -1;
+	return opened;
+}
+
 struct opened *let_go_of(struct opened *opened)
 {
 	if (opened->descriptor >= 0)
@@ -183,9 +192,7 @@ struct opened *leave_opened(struct opened *opened)
 
 	if (options.format == 3 && opened->holders > 1) {
 		release(opened);
-		left = allocate(sizeof *left);
-		left->holders = 1;
-		left->descriptor = -1;
+		left = new_unknown();
 	}
 	let_go_of(left);
 	left->is_unsure = true;

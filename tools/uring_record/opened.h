@@ -32,8 +32,8 @@ bool is_same(int one, int other);
  * this, as a description. */
 bool is_copy_of(const struct opened *opened, int copy, const struct stat *status);
 
-/* A program has changed O_APPEND of something that it has open: from then on it is looked at whether
- * a description has it otherwise than in the replay. */
+/* A program has changed O_APPEND of something that it has open: from then on it is looked at
+ * whether a description has it otherwise than in the replay. */
 void appends_changed(void);
 bool has_other_append(const struct opened *opened);
 
@@ -50,6 +50,8 @@ struct opened *new_opened(int descriptor, u64 position);
 /* One of which only is kept which file it is: a copy would hold a pipe or socket open. The
  * descriptor is closed. */
 struct opened *new_foreign(int descriptor);
+/* One of which nothing is known. */
+struct opened *new_unknown(void);
 /* Closes the recorder's descriptor of one. */
 struct opened *let_go_of(struct opened *opened);
 /* The same for one that holds it, which is looked at anew where it is used: gives what it has from

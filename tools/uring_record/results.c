@@ -255,14 +255,15 @@ static void write_entry(const struct record *record, const struct entry *entry)
 		if (entry->data_length > DATA_SHOWN)
 			fputc('+', file);
 	}
-	if (is_given(entry))
+	bool is_told_as_given = is_given(entry) && !is_ambiguous(entry);
+	if (is_told_as_given)
 		fputs(" given=1", file);
 	fprintf(file, " op=%u", entry->opcode);
 	if (entry->chosen)
 		fprintf(file, " slot=%u", entry->chosen - 1);
 	if (entry->state == ENTRY_MADE)
 		fputs(" by=recorder", file);
-	if (entry->outside != INSIDE && !is_given(entry))
+	if (entry->outside != INSIDE && !is_told_as_given)
 		fprintf(file, " outside=%s", outside_words[entry->outside]);
 	if (entry->state != ENTRY_MADE)
 		fprintf(file, " submitted=%" PRIu64, entry->submitted);

@@ -273,6 +273,14 @@ void give_up_slot(struct ring *ring, u32 slot)
 	}
 }
 
+void slot_is_unknown(struct ring *ring, u32 slot, u64 sequence, u64 renewals)
+{
+	if (ring->renewals != renewals || ring->changed[slot].sequence != sequence)
+		return;
+	release(ring->foreign[slot]);
+	ring->foreign[slot] = new_unknown();
+}
+
 u32 most_slots(void)
 {
 	return options.format == 1 ? VERSION_ONE_SLOTS : MOST_SLOTS;

@@ -117,6 +117,8 @@ void empty_slot(struct ring *ring, u32 slot);
 /* The command has something in a slot that is no file of the tree: what the replay has there goes.
  */
 void give_up_slot(struct ring *ring, u32 slot);
+/* It is not known what a slot has that an entry changed, unless it was changed since. */
+void slot_is_unknown(struct ring *ring, u32 slot, u64 sequence, u64 renewals);
 /* The replay has a description in a slot from here on, which becomes the slot's. */
 void slot_holds(struct ring *ring, u32 slot, struct opened *opened);
 /* So many slots a ring of the command may have in the trace. */

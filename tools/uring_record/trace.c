@@ -387,9 +387,14 @@ bool is_given(const struct entry *entry)
 	return options.format == 3 && entry->is_aside;
 }
 
+bool is_ambiguous(const struct entry *entry)
+{
+	return entry->outside == OUTSIDE_USER;
+}
+
 enum outside reason_of(const struct entry *entry)
 {
-	return is_given(entry) ? entry->given_by : entry->outside;
+	return is_given(entry) && !is_ambiguous(entry) ? entry->given_by : entry->outside;
 }
 
 /* Whether the replay may give the rest of a chain another end than the kernel: the member asks for
@@ -397,7 +402,7 @@ enum outside reason_of(const struct entry *entry)
 static bool turns_chain(const struct entry *entry)
 {
 	if (is_given(entry))
-		return false;
+		return is_ambiguous(entry);
 	switch (entry->outside) {
 	case OUTSIDE_OPCODE:
 		return !entry->replaced || entry->state != ENTRY_POSTED || entry->result < 0;

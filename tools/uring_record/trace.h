@@ -94,12 +94,15 @@ struct entry {
 	bool fails, is_refused; /* of one that is given: whether it fails; on submission */
 	bool is_given_up; /* it, or a member of its chain before it, was given before its end was
 			   * seen */
-	enum outside given_by; /* why it is given */
-	struct record *record; /* the call's; NULL of what the recorder makes */
-	struct entry *head;    /* the first of its chain; NULL of what the recorder makes */
-	struct entry *alike;   /* another one that may have had its result */
-	bool is_alike;	       /* it is one of those that may be marked still */
-	bool is_landed;	       /* it is in flight no more */
+	enum outside given_by;	  /* why it is given */
+	struct record *record;	  /* the call's; NULL of what the recorder makes */
+	struct entry *head;	  /* the first of its chain; NULL of what the recorder makes */
+	struct entry *alike;	  /* another one that may have had its result */
+	bool is_alike;		  /* it is one of those that may be marked still */
+	struct changes *changes;  /* what it may have changed then */
+	struct entry *alike_from; /* of a head: the first such member */
+	bool is_left;		  /* it is behind one that had another's result */
+	bool is_landed;		  /* it is in flight no more */
 	struct entry *turned; /* of a head: the first member that may end otherwise in the replay */
 	enum entry_state state;
 	enum outside outside;
@@ -228,6 +231,8 @@ void put_aside(struct entry *entry, enum outside why);
 void put_inside(struct entry *entry);
 /* Whether the trace gives the result of an entry. */
 bool is_given(const struct entry *entry);
+/* Whether it is not sure whose result an entry has, given or not. */
+bool is_ambiguous(const struct entry *entry);
 /* Why an entry is outside, or is given. */
 enum outside reason_of(const struct entry *entry);
 /* Whether the replay may do otherwise with an entry: it, or an earlier member of its chain, is

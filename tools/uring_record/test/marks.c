@@ -225,6 +225,49 @@ static void alike(void)
 	take(&ring);
 }
 
+/* Takes so many completions that may be in any order, with any result. */
+static void take_any(unsigned count)
+{
+	submit(&ring, count);
+	while (count--)
+		take(&ring);
+}
+
+/* One user_data for entries of which some are given: whose result is whose is not known, and what
+ * they changed neither. */
+static void alike_given(void)
+{
+	int ends[2], to = open("b", O_CREAT | O_RDWR, 0644);
+
+	if (pipe2(ends, O_NONBLOCK) || mkdir("there", 0755))
+		fail("pipe");
+	for (unsigned at = 0; at < 3; at++) {
+		struct io_uring_sqe *sqe = add(&ring, OP_WRITE, to, "write", 5, 5 * at);
+		sqe->user_data = 7;
+		sqe->flags = FLAG_ASYNC;
+		sqe = add(&ring, OP_READ, ends[0], bytes, 5, 0);
+		sqe->user_data = 7;
+		sqe->rw_flags = 8;
+		take_any(2);
+	}
+	if (write(ends[1], "piped", 5) != 5)
+		fail("write");
+	add(&ring, OP_READ, file, bytes + 100, 5, BYTES - 3)->user_data = 8;
+	struct io_uring_sqe *sqe = add(&ring, OP_READ, ends[0], bytes, 5, 0);
+	sqe->user_data = 8;
+	sqe->flags = FLAG_LINK;
+	add(&ring, OP_WRITE, open("c", O_CREAT | O_RDWR, 0644), "behind", 6, 0);
+	take_any(3);
+	add(&ring, OP_MKDIRAT, AT_FDCWD, "there", 0755, 0)->user_data = 9;
+	add(&ring, OP_MKDIRAT, AT_FDCWD, "here", 0755, 0)->user_data = 9;
+	take_any(2);
+	for (int at = 0; at < 4; at++)
+		add(&ring, OP_MKDIRAT, AT_FDCWD, "there", 0755, 0)->user_data = 10;
+	take_any(4);
+	add(&ring, OP_READ, to, bytes, 15, 0);
+	expect("a read", run_one(&ring), 15);
+}
+
 /* Completions that are never seen: of a pipe, behind a drain, and more than the queue holds. */
 static void unseen(void)
 {
@@ -494,6 +537,7 @@ static const struct mode modes[] = {
 	{ "passed_on", passed_on },
 	{ "beyond", beyond },
 	{ "alike", alike },
+	{ "alike_given", alike_given },
 	{ "unseen", unseen },
 	{ "many_completions", many_completions },
 	{ "refused", refused },
