@@ -11,7 +11,7 @@ from harness import EXAMPLES, Job, Outcome, Program, first, skipped
 from recorded import FOLDERS, SOURCES, compared, read_file, traces_in
 from recorder import UNTRIED, Built, accepted, fault_of, ran_in, record_strictly, replayed, tools
 from recorder_streams import LOCK, record, streams
-from traces import FADVISE, FSYNC, READ, READ_FIXED, SYNC_FILE_RANGE, WRITE_FIXED
+from traces import FADVISE, FSYNC, MKDIRAT, OPENAT, READ, READ_FIXED, SYNC_FILE_RANGE, UNLINKAT, WRITE_FIXED
 
 # The opcodes that the profile does not serve, of those that are recorded here.
 UNSERVED = POLL_ADD, TIMEOUT, ASYNC_CANCEL, LINK_TIMEOUT, STATX, MADVISE, RECV, EPOLL_CTL, SYMLINKAT, NONE = 6, 11, 14, 15, 21, 25, 27, 29, 38, 200
@@ -42,6 +42,8 @@ MODES = (
     Mode("filled_buffer", [(READ_FIXED, 5, PASSES), (WRITE_FIXED, 5, PASSES), (RECV, 6, PASSES), (WRITE_FIXED, 6, PASSES)], (5, 0), (0, 1)),
     Mode("told", [(STATX, 0, PASSES)] * 3 + [(STATX, -22, FAILS)] * 3, (16, 0), (2, 0)),
     Mode("quiet", [(POLL_ADD, 0, PASSES), (EPOLL_CTL, -9, FAILS)], (5, 0), (0, 1)),
+    # (the recorder makes a call for each name)
+    Mode("names", [(MKDIRAT, 0, PASSES)] * 2 + [(UNLINKAT, 0, PASSES), (OPENAT, 0, PASSES)], (13, 0), (5, 0)),
 )
 OPTIONS: Sequence[Sequence[str]] = ([], ["--wait"])
 

@@ -16,7 +16,7 @@ from harness import TOP, Answer, Job, Outcome, Program, first, say, shown, skipp
 from recorded import SHARED, SOURCES, UNTRIED, Tools, lacking_in_system, ran_in, read_file
 
 # Each mode of marks.c, or of ordinary.c: in version 2 why entries are outside, in version 3 why they are given or outside, and how many lines of entries
-# are equal there at least.
+# are equal there at least. Where it is whole, nothing is outside in version 3.
 class Mode(NamedTuple):
     name: str
     marks: Sequence[str] = ()
@@ -24,11 +24,12 @@ class Mode(NamedTuple):
     marks_of_3: Sequence[str] = ()
     equal: int = 1
     program: str = "marks"
+    is_whole: bool = False
 
 
 MODES = (
     Mode("through_a_link", ["path"], ["path"], equal=60),
-    Mode("links", ["opcode", "link"], ["opcode", "link"], ["path"], 3),
+    Mode("links", ["opcode", "link"], ["opcode", "link"], equal=3, is_whole=True),
     Mode("elsewhere", ["path", "descriptor"], ["path", "descriptor"], equal=8),
     # (version 3 tells the slot that the kernel chose, and the file that a slot got by such an opcode)
     Mode("chosen_slots", ["slot", "descriptor"], ["slot"], equal=20),
@@ -60,7 +61,11 @@ MODES = (
     Mode("clones", ["changed"], marks_of_3=["changed"], equal=4, program="ordinary"),
     Mode("submits", ["changed"], marks_of_3=["changed"], program="ordinary"),
     Mode("own_names", ["changed"], marks_of_3=["changed"], equal=3, program="ordinary"),
+    Mode("over_links", ["link"], ["link"], equal=40, is_whole=True),
+    Mode("links_in_chains", ["opcode", "link", "path", "chain"], ["opcode", "link", "path", "chain"], equal=14, is_whole=True),
 )
+# Names, links among them, that are made, moved and taken away as they are drawn.
+SEEDS = range(12)
 VERSION_2 = ["--format", "2"]
 OPTIONS: Sequence[Sequence[str]] = ([], ["--drain"], ["--wait"], VERSION_2, [*VERSION_2, "--nop"], ["--version-1"])
 # What recording may cost: so many reads of memory an entry by depth, beside those of the start, which are the same on every machine;
@@ -127,7 +132,16 @@ def mode(tools: Tools, program: Program, mode: Mode, words: Sequence[str]) -> Ou
         faults += ["it is outside, and given: " + it for it in entry_lines(made.kernel) if " given=1" in it and " outside=" in it]
         if equal_entries(made.compared) < mode.equal:
             faults.append("fewer than {} entries are equal: {}".format(mode.equal, shown(made.compared)))
+        faults += ["it is outside: " + it for it in made.kernel.split("\n") if mode.is_whole and " outside=" in it]
     return Outcome(label, first(faults))
+
+
+def drawn(tools: Tools, program: Program, seed: int) -> Outcome:
+    """Any names: no line of the replay differs."""
+    words = [[], VERSION_2][seed % 2]
+    label = "marks: any_links {}, {}".format(seed, spoken(words))
+    made = record(tools, program, "any_links{}".format(seed), words, [tools.file("marks"), "any_links", str(seed)])
+    return Outcome(label, "{}; diff: {}".format(shown(made.got), shown(made.compared)) if made.got.status or made.compared.status else None)
 
 
 def entry_lines(kernel: str) -> List[str]:
@@ -307,6 +321,7 @@ def marked(programs: List[Program]) -> List[Outcome]:
     program = programs[0]
     for words in OPTIONS:
         outcomes += [mode(tools, program, it, words) for it in MODES]
+    outcomes += [drawn(tools, program, it) for it in SEEDS]
     return [*outcomes, *shell_and_git(tools, program), *facts(tools), seldom_told(tools), plot(tools), *cost(tools)]
 
 

@@ -41,8 +41,14 @@ MODES = (
     Mode("nameless", (0, 2, 4, 0), 0, 8),
     Mode("passed", (0, 3, 3, 0), 1, 2, [OPENAT2, OPENAT2, MSG_RING, FD_INSTALL, FILES_UPDATE]),
     Mode("left", (0, 2, 2, 0), 1, 4),
+    # (an open beside one that waits gets a number that the replay does not give it: a path is set there where it is used)
+    Mode("held", (0, 9, 0, 0), 0, 8, [OPENAT] * 9),
+    Mode("beside", (0, 9, 0, 2), 0, 8, [OPENAT] * 10),
 )
+# Modes of opens in flight whose numbers differ from run to run.
+MEETING = ("at_once", "making")
 OPTIONS: Sequence[Sequence[str]] = ([], ["--wait"], ["--drain"], VERSION_2)
+VERSION_1 = ["--format", "1"]
 # Of calls and entries as they are drawn: one entry at a time of an even seed, and chains of an odd one.
 SEEDS = range(12)
 
@@ -88,6 +94,19 @@ def of_mode(program: Program, mode: Mode, words: Sequence[str]) -> List[Outcome]
     return [Outcome(label, fault)]
 
 
+def meeting(program: Program, name: str, words: Sequence[str]) -> List[Outcome]:
+    """Opens in flight: the program ends as alone, and no line of the replay differs, whatever numbers they got. With --drain all are decided."""
+    found = built()
+    label = "sets: {}{}".format(name, "".join(" " + it for it in words))
+    ran, path, fault = record_strictly(program, "sets-" + name + "".join(words), words, [found.file("between"), name])
+    if ran.status == UNTRIED:
+        return skipped(label, ran.said().split("\n")[0])
+    kernel = "" if fault else read_file(path + ".kernel").decode()
+    if not fault and (name, words) == ("at_once", ["--drain"]) and re.search(" (given=1|outside=)", kernel):
+        fault = "not all is decided"
+    return [Outcome(label, fault or first(compared(model_records.report(read_file(path + ".trace")).decode(), kernel).differing))]
+
+
 def drawn(program: Program, seed: int) -> List[Outcome]:
     """Any calls and entries: it ends as alone, and no line of the replay differs. The recorder makes entries for changes of the tree alone."""
     found = built()
@@ -112,4 +131,6 @@ def part(run: "partial[List[Outcome]]", label: str) -> List[Outcome]:
 
 def jobs(programs: List[Program]) -> List[Job]:
     each = [partial(part, partial(of_mode, programs[0], mode, words), "sets: " + mode.name) for mode in MODES for words in OPTIONS]
+    meetings = [(name, words) for name in MEETING for words in OPTIONS] + [(name, VERSION_1) for name in (*MEETING, "held", "beside")]
+    each += [partial(part, partial(meeting, programs[0], name, words), "sets: " + name) for name, words in meetings]
     return [*each, *(partial(part, partial(drawn, programs[0], seed), "sets: any {}".format(seed)) for seed in SEEDS)]

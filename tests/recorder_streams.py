@@ -93,7 +93,8 @@ def told(program: Program) -> List[Outcome]:
 
 
 def sixteen(program: Program) -> List[Outcome]:
-    """The sixteen calls have the counts that they have in version 2, but for the one entry that is outside there: it is given. The recorder makes fewer entries."""
+    """The sixteen calls have the counts that they have in version 2, but for entries that are outside there: a timeout is given, and so is an OPENAT that met a
+    MKDIRAT of its name, since the replay may give it no number. The recorder makes fewer entries."""
     built, outcomes = streams(), []
     for words in ([], ["--drain"], ["--wait"]):
         name = "sixteen" + "".join(words)
@@ -105,11 +106,12 @@ def sixteen(program: Program) -> List[Outcome]:
             wanted = compared(model_records.report(read_file(second + ".trace")).decode(), read_file(second + ".kernel").decode())
             equal, different, outside = wanted.counts["entries"]
             fewer = read_file(second + ".kernel").count(b" by=recorder") - read_file(made.path + ".kernel").count(b" by=recorder")
-            wanted.counts["entries"] = [equal + 1 - fewer, different, outside - 1]
+            given = re.findall(r" res=(\S+) posted given=1 op=(\d+) ", read_file(made.path + ".kernel").decode())
+            wanted.counts["entries"] = [equal + len(given) - fewer, different, outside - len(given)]
             fault = None if fewer > 0 else "the recorder makes as many entries as in version 2"
             fault = fault or (None if made.compared.lines() == wanted.lines() else "it has {!r}, wanted {!r}".format(made.compared.lines(), wanted.lines()))
-            given = re.findall(r" res=(\S+) posted given=1 op=(\d+) ", read_file(made.path + ".kernel").decode())
-            fault = fault or (None if given == [("-62", "11")] else "it gives {}".format(given))
+            opens = [] if "--drain" in words else ["18"]
+            fault = fault or (None if [it[1] for it in given] == [*opens, "11"] else "it gives {}".format(given))
         outcomes.append(Outcome("version 3: the sixteen calls, {}".format(spoken(words)), fault))
     return outcomes
 

@@ -5,6 +5,7 @@
 #include "notes.h"
 #include "paths.h"
 #include "sets.h"
+#include "sides.h"
 #include "table.h"
 
 #include <errno.h>
@@ -21,10 +22,10 @@ enum {
 	OP_FILES_UPDATE = 20,
 	OP_OPENAT2 = 28,
 	OP_SPLICE = 30,
+	OP_SYMLINKAT = 38,
 	OP_MSG_RING = 40,
 	OP_SOCKET = 45,
 	OP_FD_INSTALL = 54,
-	OP_PIPE = 62,
 	OP_WRITEV_FIXED = 61,
 };
 enum { SENDS_DESCRIPTOR = 1, NO_SLOT = 65535, MOST_SIDE = 4095 };
@@ -69,31 +70,14 @@ void take_outside_slot(struct flight *flight, u32 index, struct opened *opened)
 	flight->ring->foreign[index - 1] = opened;
 }
 
-bool may_take_number(const struct flight *flight)
+/* Finds what an entry names in the tree. */
+static void find_name(struct flight *flight, pid_t thread, u64 address)
 {
-	switch (flight->asked_for.opcode) {
-	case OP_OPENAT:
-		return flight->entry->is_aside && !flight->asked_for.file_index;
-	case OP_ACCEPT:
-	case OP_OPENAT2:
-	case OP_SOCKET:
-	case OP_PIPE:
-		return !flight->asked_for.file_index;
-	case OP_FD_INSTALL:
-		return true;
-	default:
-		return false;
-	}
-}
+	char *text = fetch_text(thread, address);
 
-/* Whether an entry of the same call before this one has taken a number that its replay does not
- * take: then this one gets another. */
-static bool is_behind_taker(const struct entry *entry)
-{
-	const struct record *record = entry->record;
-
-	return options.format == 3 && record->has_taken &&
-	       (u32)(entry - record->entries) >= record->taker;
+	if (text)
+		name_outside(flight, 0, flight->asked_for.fd, text);
+	free(text);
 }
 
 /* OPENAT2: which file it opens. */
@@ -101,17 +85,26 @@ static void look_at_openat2(struct flight *flight, pid_t thread)
 {
 	const struct io_uring_sqe *sqe = &flight->asked_for;
 	struct open_how how = { 0 };
-	char *text = fetch_text(thread, sqe->addr);
 	u64 size = min64(sizeof how, sqe->len);
-	bool is_known;
 
 	fetch(thread, sqe->off, &how, size);
 	flight->open_flags = (u32)how.flags;
-	flight->names[0] = text ? canonical_path(flight->process, sqe->fd, text, &is_known) : NULL;
-	free(text);
+	find_name(flight, thread, sqe->addr);
+	if (flight->names[0])
+		flight->used = new_direct(flight->names[0], flight->open_flags);
 	take_outside_slot(flight, sqe->file_index,
-			  flight->names[0] ? new_direct(flight->names[0], flight->open_flags)
-					   : new_unknown());
+			  flight->used ? hold(flight->used) : new_unknown());
+	touch_opened(flight);
+}
+
+/* SYMLINKAT: the name of the link. */
+static void look_at_symlinkat(struct flight *flight, pid_t thread)
+{
+	find_name(flight, thread, flight->asked_for.addr2);
+	flight->changes_link = true;
+	if (flight->names[0])
+		touch_name(flight, (const u8 *)flight->names[0], (u32)strlen(flight->names[0]),
+			   true);
 }
 
 /* FILES_UPDATE: the files that its descriptors lead to. These may be closed, or written over,
@@ -146,6 +139,9 @@ void look_at_unserved(struct flight *flight, pid_t thread)
 		break;
 	case OP_OPENAT2:
 		look_at_openat2(flight, thread);
+		break;
+	case OP_SYMLINKAT:
+		look_at_symlinkat(flight, thread);
 		break;
 	case OP_FILES_UPDATE:
 		look_at_descriptors(flight, thread);
@@ -201,6 +197,15 @@ static bool is_renumbered(const struct flight *flight, i32 result)
 	return result == -EBADF && !is_refused;
 }
 
+/* Whether the directory that an entry was to take away, or to replace, holds nothing that the tree
+ * has. */
+static bool is_empty_in_tree(const struct flight *flight)
+{
+	const char *name = flight->names[flight->asked_for.opcode == OP_RENAMEAT];
+
+	return !name || !holds_names(name);
+}
+
 enum outside outside_by_result(const struct flight *flight, i32 result)
 {
 	const struct entry *entry = flight->entry;
@@ -216,11 +221,10 @@ enum outside outside_by_result(const struct flight *flight, i32 result)
 	if (options.format == 3 && sqe->opcode == OP_CLOSE && flight->was_taken && result < 0 &&
 	    result != -ECANCELED)
 		return OUTSIDE_DESCRIPTOR;
-	if (result >= 0 && opens_in_table(sqe) &&
-	    ((u32)result >= trace.table_size || is_behind_taker(entry)))
-		return OUTSIDE_DESCRIPTOR;
 	if (result >= 0 && end_in_file(sqe, result) > MOST_SIZE)
 		return OUTSIDE_LARGE;
+	if (result == -ENOTEMPTY && is_empty_in_tree(flight))
+		return OUTSIDE_LINK;
 	if (options.format == 3 && is_undecided(flight, result))
 		return result == -EFAULT ? OUTSIDE_MEMORY : OUTSIDE_SYSTEM;
 	if (options.format == 3 && result != -EFBIG)
@@ -250,23 +254,43 @@ enum outside outside_by_result(const struct flight *flight, i32 result)
 
 /* What the kernel did. */
 
+/* What an entry that has ended names in the tree, in memory of its own, or NULL: looked for now
+ * where that was not known when it was submitted. */
+static char *told_name(const struct flight *flight, u32 which)
+{
+	const char *known = flight->names[which], *later = flight->unresolved[which];
+	char *full = later ? copy_text(later) : known && flight->rests ? outside_path(known) : NULL;
+	bool is_there = true;
+
+	if (!full)
+		return known ? copy_text(known) : NULL;
+	char *name = resolve_name(full, &is_there);
+	if (!is_there)
+		lose("a name that was made or taken away at a place that is not known");
+	free(full);
+	return name;
+}
+
 /* The name in the tree of what an open that is outside opened, in memory of its own, or NULL. */
 static char *name_of_opened(const struct flight *flight, i32 result)
 {
-	char *full, *name = NULL, *path = flight->names[0];
+	char *full, *name = NULL;
+	bool is_silent = flight->entry->state == ENTRY_SILENT;
 
-	if (!flight->asked_for.file_index) {
+	if (!flight->asked_for.file_index && !is_silent) {
 		int copy = copy_descriptor(flight->process, result);
 		name = copy < 0 ? NULL : name_of(copy);
 		if (copy >= 0)
 			close(copy);
 		return name;
 	}
+	char *path = told_name(flight, 0);
 	full = path ? outside_path(path) : NULL;
 	int copy = full ? open(full, O_PATH | O_CLOEXEC) : -1;
 	name = copy < 0 ? NULL : name_of(copy);
 	if (copy >= 0)
 		close(copy);
+	free(path);
 	free(full);
 	return name;
 }
@@ -283,7 +307,7 @@ static void tell_opened(struct flight *flight, i32 result)
 	bool is_plain = !(flags & (O_PATH | __O_TMPFILE)) && (flags & O_ACCMODE) != O_ACCMODE;
 	char *name = is_last && is_plain ? name_of_opened(flight, result) : NULL;
 
-	if (name) {
+	if (name && doubted_by(name, (u32)strlen(name)) == INSIDE) {
 		flags &= O_ACCMODE | O_APPEND;
 		set_path(of_slot(ring, slot), name, flags, 0);
 		slot_holds(ring, slot, new_direct(name, flags));
@@ -305,7 +329,8 @@ static void open_ended(struct flight *flight, i32 result)
 		make_open(our_ring(), 1, name, kept, 0);
 	}
 	free(name);
-	if (flight->asked_for.file_index == IORING_FILE_INDEX_ALLOC)
+	if (flight->asked_for.file_index == IORING_FILE_INDEX_ALLOC &&
+	    flight->entry->state != ENTRY_SILENT)
 		take_outside_slot(flight, (u32)result + 1,
 				  flight->names[0]
 					  ? new_direct(flight->names[0], flight->open_flags)
@@ -446,32 +471,57 @@ static void files_ended(struct flight *flight, pid_t thread, i32 done)
 	has_changed(flight, from + count);
 }
 
-/* Names that an entry outside made, moved or took away are so by an entry of the recorder. */
-static void names_ended(struct flight *flight)
+/* Tells what an entry made, moved or took away by an entry of the recorder. Links are in no tree.
+ */
+static void tell_names(const struct flight *flight, char *const names[2])
 {
 	const struct io_uring_sqe *sqe = &flight->asked_for;
-	const char *one = flight->names[0], *other = flight->names[1];
 
-	if (!one && other && sqe->opcode == OP_RENAMEAT)
-		doubt_name((const u8 *)other, (u32)strlen(other), OUTSIDE_LINK);
-	if (!one)
+	if (!names[0])
 		return;
 	switch (sqe->opcode) {
 	case OP_UNLINKAT:
-		make_path(OP_UNLINKAT, sqe->unlink_flags & AT_REMOVEDIR, one);
+		if (!flight->is_link[0])
+			make_path(OP_UNLINKAT, sqe->unlink_flags & AT_REMOVEDIR, names[0]);
 		break;
 	case OP_MKDIRAT:
-		make_path(OP_MKDIRAT, 0, one);
+		make_path(OP_MKDIRAT, 0, names[0]);
 		break;
 	case OP_RENAMEAT:
-		if (other)
-			make_paths(OP_RENAMEAT, sqe->rename_flags & 3, one, other);
+		if (names[1])
+			make_rename(sqe->rename_flags & 3, names, flight->is_link,
+				    flight->replaces);
 		break;
 	case OP_LINKAT:
-		if (other)
-			make_paths(OP_LINKAT, 0, one, other);
+		if (names[1] && !flight->is_link[0])
+			make_paths(OP_LINKAT, 0, names[0], names[1]);
 		break;
 	}
+}
+
+/* Whether it is not known whether an entry moved, or took away, a file or a link: what it named was
+ * made by one that was in flight with it. */
+static bool may_be_of_link(const struct flight *flight)
+{
+	const struct io_uring_sqe *sqe = &flight->asked_for;
+	bool is_file = sqe->opcode == OP_UNLINKAT && !(sqe->unlink_flags & AT_REMOVEDIR);
+
+	return flight->rests && (is_file || sqe->opcode == OP_RENAMEAT || sqe->opcode == OP_LINKAT);
+}
+
+/* Names that an entry outside made, moved or took away are told, or in doubt. */
+static void names_ended(struct flight *flight)
+{
+	char *names[2] = { told_name(flight, 0), told_name(flight, 1) };
+
+	for (unsigned at = 0; may_be_of_link(flight) && at < 2; at++) {
+		if (names[at])
+			doubt_name((const u8 *)names[at], (u32)strlen(names[at]), OUTSIDE_CHAIN);
+	}
+	if (!may_be_of_link(flight))
+		tell_names(flight, names);
+	free(names[0]);
+	free(names[1]);
 }
 
 /* What the replay has in a slot goes, where something came there that the replay does not have. */
@@ -590,17 +640,23 @@ void outside_ended(struct flight *flight, pid_t thread, i32 result)
 	slot_ended(flight);
 }
 
+void doubt_touched(const struct flight *flight, enum outside why)
+{
+	for (u32 at = 0; at < flight->touch_count; at++) {
+		const struct touch *touch = &flight->touches[at];
+		if (touch->kind == TOUCH_NAME && touch->writes)
+			doubt_name(touch->path, touch->length, why);
+	}
+}
+
 void doubt_names(const struct flight *flight, i32 result)
 {
 	u8 opcode = flight->asked_for.opcode;
 	bool takes_away = opcode == OP_UNLINKAT || opcode == OP_RENAMEAT;
 	bool makes = result >= 0 && (opcode == OP_MKDIRAT || opcode == OP_LINKAT);
 
-	for (u32 at = 0; (takes_away || makes) && at < flight->touch_count; at++) {
-		const struct touch *touch = &flight->touches[at];
-		if (touch->kind == TOUCH_NAME && touch->writes)
-			doubt_name(touch->path, touch->length, OUTSIDE_ORDER);
-	}
+	if (takes_away || makes)
+		doubt_touched(flight, OUTSIDE_ORDER);
 }
 
 void leave(const struct flight *flight)
@@ -609,9 +665,8 @@ void leave(const struct flight *flight)
 		const struct touch *touch = &flight->touches[at];
 		if (touch->kind == TOUCH_FILE && touch->writes)
 			unsettle(touch->file, OUTSIDE_UNSEEN);
-		if (touch->kind == TOUCH_NAME && touch->writes)
-			doubt_name(touch->path, touch->length, OUTSIDE_UNSEEN);
 	}
+	doubt_touched(flight, OUTSIDE_UNSEEN);
 	if (flight->changes)
 		unsettle(flight->changes, OUTSIDE_UNSEEN);
 }

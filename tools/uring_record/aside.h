@@ -10,8 +10,6 @@
 void look_at_unserved(struct flight *flight, pid_t thread);
 /* A slot of the command gets what the replay's slot does not have; `opened` becomes its own. */
 void take_outside_slot(struct flight *flight, u32 index, struct opened *opened);
-/* Whether an entry may take a number of the table that its replay does not take. */
-bool may_take_number(const struct flight *flight);
 /* The file that the number of an entry leads to now, or NULL. */
 struct opened *file_now(const struct flight *flight);
 /* Where an entry that writes bytes, or changes a size, ends in its file: 0 where it is not one, or
@@ -19,6 +17,8 @@ struct opened *file_now(const struct flight *flight);
 u64 end_in_file(const struct io_uring_sqe *sqe, i32 result);
 /* Why a result has no form in the replay, or INSIDE. */
 enum outside outside_by_result(const struct flight *flight, i32 result);
+/* The names that a flight makes, moves or takes away are in doubt. */
+void doubt_touched(const struct flight *flight, enum outside why);
 /* Of an entry that met another one at a name: what is there then depends on their order. */
 void doubt_names(const struct flight *flight, i32 result);
 /* What the kernel did of an entry that is outside. */

@@ -70,7 +70,7 @@ static struct opened *open_ours(int copy)
 {
 	struct holder ours = of_slot(our_ring(), 0);
 	int again = fcntl(copy, F_DUPFD_CLOEXEC, 0);
-	char *name = name_of(copy);
+	char *name = name_in_replay(copy);
 	struct opened *known = name || options.format != 3 ? NULL : set_known(ours, again);
 
 	if (name && options.format == 3)
@@ -102,13 +102,13 @@ static bool open_our_slot(int copy)
 }
 
 /* A change of a file that has no entry: it is noted, and the bytes of the file are not told from
- * here on. `is_nameless` says that it is one of a file that no path leads to. */
-static void leave_change(const struct opened *file, const char *what, bool is_nameless)
+ * here on. */
+static void leave_change(const struct opened *file, const char *what)
 {
 	char *target = descriptor_target(getpid(), file->descriptor);
 	char *inside = target ? inside_root(target) : NULL;
 
-	if (inside && (!is_nameless || is_deleted(target))) {
+	if (inside) {
 		note(what, NULL);
 		unsettle(file, OUTSIDE_CHANGED);
 	}
@@ -118,7 +118,7 @@ static void leave_change(const struct opened *file, const char *what, bool is_na
 
 static void note_nameless(const struct opened *file)
 {
-	leave_change(file, "an ordinary call that changes a file without a name is left out", true);
+	leave_change(file, "an ordinary call that changes a file without a name is left out");
 }
 
 /* Adds an entry for a call on a descriptor: on the same number where the table has it, else on the
@@ -227,8 +227,7 @@ static void ended_fallocate(struct call *call, i64 result)
 	sqe.len = (u32)arguments[1];
 	if (sqe.len & (FALLOC_FL_COLLAPSE_RANGE | FALLOC_FL_INSERT_RANGE)) {
 		leave_change(call->flight->used,
-			     "fallocate(2) that takes a range out or puts one in is left out",
-			     false);
+			     "fallocate(2) that takes a range out or puts one in is left out");
 		return;
 	}
 	/* (the replay has no shared blocks, and its zeros are as good as written ones) */
@@ -242,7 +241,7 @@ static void ended_fallocate(struct call *call, i64 result)
 static void ended_ioctl(struct call *call, i64 result)
 {
 	(void)result;
-	leave_change(call->flight->used, "ioctl(2) that changes a file is left out", false);
+	leave_change(call->flight->used, "ioctl(2) that changes a file is left out");
 }
 
 /* Whether fcntl(2) is to change O_APPEND of a file. */
@@ -304,16 +303,6 @@ static void ended_open(struct call *call, i64 result);
 static void ended_truncate(struct call *call, i64 result);
 static void ended_link(struct call *call, i64 result);
 
-/* Whether a call that makes, moves or takes away a name finds there what the trace may have: a link
- * is in no trace. Links on the way to it are gone through. */
-static bool is_in_trace(const struct call *call, char **name)
-{
-	bool is_open = kind_of(call->number)->ended == ended_open;
-	bool cuts = kind_of(call->number)->ended == ended_truncate;
-
-	return look_through(name, is_open || cuts) != NAME_LINK || is_open;
-}
-
 /* Whether a call goes on to what a link at the end of its first path leads to. */
 static bool follows_last(const struct call *call)
 {
@@ -321,6 +310,14 @@ static bool follows_last(const struct call *call)
 
 	return ended == ended_open || ended == ended_truncate ||
 	       (ended == ended_link && flags_of(call) & AT_SYMLINK_FOLLOW);
+}
+
+/* Whether a call finds at a name what no trace has, as a link, and moves it or takes it away. Links
+ * on the way to it are gone through. */
+static bool finds_link(const struct call *call, char **name, bool follows)
+{
+	return look_through(name, follows) == NAME_LINK &&
+	       kind_of(call->number)->ended != ended_open;
 }
 
 /* Whether a call gives another name to what is open at a number. */
@@ -342,36 +339,42 @@ static char *name_of_opened(pid_t process, int number)
 
 /* A name of a call as the trace has it, in memory of its own, or NULL where it is not below the
  * root, or not known. */
-static char *name_in_tree(const struct call *call, int directory, int argument, bool *is_known)
+static char *name_in_tree(const struct call *call, int directory, int argument, bool *is_known,
+			  bool *is_link)
 {
 	int from = directory == NONE ? AT_FDCWD : (int)call->arguments[directory];
 	char *path = argument == NONE ? NULL : fetch_text(call->thread, call->arguments[argument]);
 	bool is_first = argument == kind_of(call->number)->path;
+	bool follows = is_first && follows_last(call);
 
 	*is_known = true;
+	*is_link = false;
 	if (path && !*path && is_first && links_opened(call)) {
 		free(path);
 		return name_of_opened(call->process, from);
 	}
 	char *name = path ? canonical_path(call->process, from, path, is_known) : NULL;
-	if (name && !is_in_trace(call, &name)) {
+	*is_link = name && finds_link(call, &name, follows);
+	if (*is_link && follows) {
+		*is_link = false;
 		free(name);
 		name = NULL;
 	}
-	if (!name && path && is_first && follows_last(call))
+	if (!name && path && follows)
 		name = followed_path(call->process, from, path);
 	free(path);
 	return name;
 }
 
 /* Finds the names of a call; false where one of them is not known. */
-static bool find_names(const struct call *call, char **names)
+static bool find_names(const struct call *call, char **names, bool *are_links)
 {
 	const struct kind *kind = kind_of(call->number);
 	bool is_known, is_other_known;
 
-	names[0] = name_in_tree(call, kind->directory, kind->path, &is_known);
-	names[1] = name_in_tree(call, kind->other_directory, kind->other, &is_other_known);
+	names[0] = name_in_tree(call, kind->directory, kind->path, &is_known, &are_links[0]);
+	names[1] = name_in_tree(call, kind->other_directory, kind->other, &is_other_known,
+				&are_links[1]);
 	return is_known && is_other_known;
 }
 
@@ -396,7 +399,7 @@ static void leave_unknown(const struct call *call)
 	static const char text[] = "an ordinary call by a name that is not known is left out";
 	const struct kind *kind = kind_of(call->number);
 	char *names[2];
-	bool is_known = find_names(call, names);
+	bool are_links[2], is_known = find_names(call, names, are_links);
 
 	if (is_known && (names[0] || names[1]))
 		note(text, NULL);
@@ -420,7 +423,8 @@ static void ended_unlink(struct call *call, i64 result)
 	if (call->number == SYS_rmdir)
 		flags = AT_REMOVEDIR;
 #endif
-	is_told_by(call, make_path(OP_UNLINKAT, flags, call->names[0]));
+	if (!call->is_link[0])
+		is_told_by(call, make_path(OP_UNLINKAT, flags, call->names[0]));
 }
 
 /* mkdir(2), mkdirat(2). */
@@ -433,21 +437,12 @@ static void ended_mkdir(struct call *call, i64 result)
 /* A rename or link of which the trace has one name: what is there is not told. */
 static void leave_names(const struct call *call)
 {
-	note("a rename or link into or out of the root, or of a symbolic link, is left out", NULL);
+	note("a rename or link into or out of the root is left out", NULL);
 	for (int at = 0; at < 2; at++) {
 		const char *name = call->names[at];
 		if (name)
 			doubt_name((const u8 *)name, (u32)strlen(name), OUTSIDE_PATH);
 	}
-}
-
-/* Adds an entry for a call with two names, where both are below the root. */
-static void add_two_names(struct call *call, u8 opcode, u32 flags)
-{
-	if (call->names[0] && call->names[1])
-		is_told_by(call, make_paths(opcode, flags, call->names[0], call->names[1]));
-	else
-		leave_names(call);
 }
 
 /* rename(2), renameat(2), renameat2(2). */
@@ -457,16 +452,25 @@ static void ended_rename(struct call *call, i64 result)
 	u32 flags = flags_of(call) & ~(u32)RENAME_WHITEOUT;
 
 	(void)result;
+	if (!call->names[0] || !call->names[1]) {
+		leave_names(call);
+		return;
+	}
 	if (flags & RENAME_EXCHANGE && options.format != 1)
 		trace.uses_table = true; /* (version 1 has no exchange) */
-	add_two_names(call, OP_RENAMEAT, flags);
+	struct entry *made = make_rename(flags, call->names, call->is_link, call->replaces);
+	if (made)
+		is_told_by(call, made);
 }
 
-/* link(2), linkat(2). */
+/* link(2), linkat(2). Another name of a link is one. */
 static void ended_link(struct call *call, i64 result)
 {
 	(void)result;
-	add_two_names(call, OP_LINKAT, 0);
+	if (!call->names[0] || !call->names[1])
+		leave_names(call);
+	else if (!call->is_link[0])
+		is_told_by(call, make_paths(OP_LINKAT, 0, call->names[0], call->names[1]));
 }
 
 /* The recorder's slot is opened by a path, which makes or cuts its file. */
@@ -562,6 +566,8 @@ static void ended_open(struct call *call, i64 result)
 		release(cut);
 	}
 	if (name && trace.uses_table && options.format != 1 && call->process == home_process()) {
+		if (call->flight)
+			forget_spans(call->flight); /* (what it makes is there now) */
 		begin_batch();
 		ensure_number(call->process, (int)result);
 	}
@@ -574,7 +580,17 @@ static void ended_open(struct call *call, i64 result)
 static void ended_submit(struct call *call, i64 result)
 {
 	for (u64 at = 0; result > 0 && at < call->file_count; at++)
-		leave_change(call->files[at], "what io_submit(2) writes is left out", false);
+		leave_change(call->files[at], "what io_submit(2) writes is left out");
+}
+
+/* Whether an open makes its file. */
+static bool makes_name(const struct call *call)
+{
+	char *full = flags_of(call) & O_CREAT ? outside_path(call->names[0]) : NULL;
+	bool makes = full && access(full, F_OK);
+
+	free(full);
+	return makes;
 }
 
 /* What a call by name touches. */
@@ -587,9 +603,9 @@ static void touch_named(struct call *call)
 
 	for (unsigned at = 0; at < 2; at++) {
 		const char *name = call->names[at];
+		bool writes = is_open ? makes_name(call) : !cuts && (!is_link || at);
 		if (name)
-			touch_name(call->flight, (const u8 *)name, (u32)strlen(name),
-				   !is_open && !cuts && (!is_link || at));
+			touch_name(call->flight, (const u8 *)name, (u32)strlen(name), writes);
 	}
 	if (call->names[0] && cuts) {
 		call->flight->used = new_direct(call->names[0], O_WRONLY);
@@ -658,11 +674,19 @@ u32 list_calls(long *numbers, u32 room)
 	return count;
 }
 
+/* Whether a call makes, moves or takes away a link. */
+static bool changes_link(const struct call *call)
+{
+	return kind_of(call->number)->ended == ended_other_name || call->is_link[0] ||
+	       call->is_link[1];
+}
+
 /* Puts a call in flight with what it touches: entries that are submitted while it runs meet it. */
 static void launch_call(struct call *call, int copy)
 {
 	reap_all(call->process, call->thread);
 	call->flight = new_flight(call_ring(), allocate(sizeof(struct entry)), call->process);
+	call->flight->changes_link = changes_link(call);
 	if (copy >= 0) {
 		call->flight->used = new_opened(copy, 0);
 		touch_changed(call);
@@ -685,7 +709,8 @@ void forget_call(struct call *call)
 	free(call->names[1]);
 	call->names[0] = call->names[1] = NULL;
 	call->flight = NULL;
-	call->is_unknown = call->looks = false;
+	call->is_unknown = call->looks = call->replaces = false;
+	call->is_link[0] = call->is_link[1] = false;
 	while (call->file_count)
 		release(call->files[--call->file_count]);
 }
@@ -706,8 +731,9 @@ bool may_change(const struct call *call)
 	}
 	if (kind->ended == ended_open && !(flags_of(call) & (O_CREAT | O_TRUNC)))
 		return false;
+	bool are_links[2];
 	char *names[2], *full;
-	find_names(call, names);
+	find_names(call, names, are_links);
 	full = names[0] ? outside_path(names[0]) : NULL;
 	/* (an open of a pipe waits for its other end) */
 	bool is_other = full && !stat(full, &status) && !S_ISREG(status.st_mode) &&
@@ -757,7 +783,8 @@ static bool begins_on_names(struct call *call, const struct kind *kind)
 	    !(flags_of(call) & (O_CREAT | O_TRUNC)))
 		return false;
 	call->looks = kind->ended == ended_open || kind->ended == ended_truncate;
-	call->is_unknown = !find_names(call, call->names) && !call->looks;
+	call->is_unknown = !find_names(call, call->names, call->is_link) && !call->looks;
+	call->replaces = call->is_link[0] && call->names[1] && is_file(call->names[1]);
 	bool has_name = call->names[0] || call->names[1];
 	if (options.touched)
 		touch_by_names(call);
@@ -824,10 +851,13 @@ void call_ended(struct call *call, i64 result)
 {
 	const struct kind *kind = kind_of(call->number);
 
-	if (result >= 0 && kind && call->is_unknown)
+	if (result >= 0 && kind && call->is_unknown) {
 		leave_unknown(call);
-	else if (result >= 0 && kind && (call->flight || call->looks))
+	} else if (result >= 0 && kind && (call->flight || call->looks)) {
 		kind->ended(call, result);
+		if (call->flight && call->flight->meets_name && kind->ended != ended_open)
+			doubt_touched(call->flight, OUTSIDE_ORDER);
+	}
 	forget_call(call);
 }
 

@@ -12,6 +12,8 @@ struct call {
 	u64 arguments[ARGUMENTS];
 	pid_t thread, process;
 	char *names[2];	       /* the paths of the trace that it names, or NULL */
+	bool is_link[2];       /* one is a link, or no file or directory: no tree has it */
+	bool replaces;	       /* a link is moved over a file */
 	struct flight *flight; /* while it runs, where it changes the tree: what it touches */
 	bool is_unknown;       /* it has a name that is not known */
 	bool looks;	       /* what it opens or cuts is seen at its end */

@@ -9,6 +9,7 @@
 #include "start.h"
 #include "table.h"
 
+#include <errno.h>
 #include <string.h>
 #include <sys/stat.h>
 
@@ -152,6 +153,8 @@ void put_back_place(struct flight *flight)
 		*slot = flight->foreign_before;
 		flight->foreign_before = NULL;
 	} else if (sqe->opcode == OP_CLOSE) {
+		if (flight->before || flight->was_taken)
+			table_surprised();
 		give_back_number(sqe->fd, flight->before, flight->was_taken);
 	}
 	flight->before = NULL;
@@ -208,6 +211,34 @@ static void slot_came(struct flight *flight, i32 result)
 		slot_holds(ring, slot, hold(flight->used));
 }
 
+/* Whether the replay gives another number to an open, or none. */
+static bool is_numbered_otherwise(const struct flight *flight, i32 result)
+{
+	bool is_known = flight->surprises == count_surprises();
+
+	if (result >= 0)
+		return flight->meets_table || flight->is_unsure || !is_known ||
+		       result != flight->number;
+	return (result == -EMFILE) != (flight->number < 0);
+}
+
+/* An open to which the replay may give another number is given: the number that it got is set where
+ * it is used. */
+static void look_at_number(struct flight *flight, i32 result)
+{
+	struct entry *entry = flight->entry;
+	bool is_other = is_numbered_otherwise(flight, result);
+
+	bool is_marked = entry->outside != INSIDE || is_doubtful(entry);
+
+	if (!flight->opens || entry->is_aside || !(is_other || is_marked))
+		return;
+	if (is_other && !flight->meets_table)
+		note("an open that got another number than the replay gives it", entry);
+	bool is_beyond = result >= 0 && (u32)result >= trace.table_size;
+	put_aside(entry, is_beyond ? OUTSIDE_DESCRIPTOR : OUTSIDE_ORDER);
+}
+
 /* What follows from the result of an entry. */
 static void completed(struct flight *flight, pid_t thread, i32 result, bool is_fresh)
 {
@@ -217,7 +248,7 @@ static void completed(struct flight *flight, pid_t thread, i32 result, bool is_f
 	entry->state = ENTRY_POSTED;
 	entry->result = result;
 	entry->completed = time_now();
-	entry->record->has_taken |= result >= 0 && may_take_number(flight);
+	look_at_number(flight, result);
 	enum outside why =
 		entry->replaced && result < 0 ? OUTSIDE_OPCODE : outside_by_result(flight, result);
 	if (why == OUTSIDE_OPCODE)
@@ -234,6 +265,8 @@ static void completed(struct flight *flight, pid_t thread, i32 result, bool is_f
 		told_came(flight, thread, is_fresh);
 	if (result > 0 && opcode == OP_READ_FIXED)
 		fixed_read_came(flight, result);
+	if (flight->meets_maker)
+		doubt_touched(flight, OUTSIDE_ORDER);
 	if (flight->meets_name)
 		doubt_names(flight, result);
 	if (is_doubtful(entry) || flight->changes || entry->outside == OUTSIDE_OPCODE)
@@ -243,13 +276,53 @@ static void completed(struct flight *flight, pid_t thread, i32 result, bool is_f
 	else if (entry->is_aside)
 		;
 	else if (opcode == OP_OPENAT && !entry->sqe.file_index)
-		number_opened(flight->process, result, is_doubtful(entry) || flight->is_unsure);
+		number_opened(flight->process, result, is_doubtful(entry));
 	else if (opcode == OP_OPENAT && flight->used)
 		look_at_direct(flight->used);
 	if (flight->moves && !entry->is_aside)
 		position_moved(flight->moves, result);
 	else if (is_given(entry))
 		given_moved(flight, result);
+}
+
+/* Lets go of one that has ended well and posted nothing. */
+static void land_silent(struct flight *flight, pid_t thread)
+{
+	struct entry *entry = flight->entry;
+
+	if (entry->state == ENTRY_UNSEEN) {
+		entry->state = ENTRY_SILENT;
+		if (flight->opens || awaits_slot(entry)) /* (nobody is told which it got) */
+			put_aside(entry, OUTSIDE_SLOT);
+		if (entry->is_aside || entry->outside == OUTSIDE_OPCODE)
+			outside_ended(flight, thread, 0);
+	}
+	if (flight->is_late)
+		note_late(entry);
+	land(flight);
+}
+
+/* Lets go of flights without a completion that have ended once this one has: those before it in its
+ * chain, and those that a drain puts before it. */
+static void land_quiet_before(const struct flight *flight, pid_t thread)
+{
+	struct flight *next;
+
+	for (struct flight *it = flight->ring->first; it && it->sequence < flight->barrier;
+	     it = next) {
+		next = it->next;
+		if (is_quiet(it) && it != flight)
+			land_silent(it, thread);
+	}
+	struct flight *first = flight->previous;
+	while (first && first->previous && first->previous->chain == flight->chain)
+		first = first->previous;
+	for (struct flight *it = first; it && it != flight && it->chain == flight->chain;
+	     it = next) {
+		next = it->next;
+		if (is_quiet(it))
+			land_silent(it, thread);
+	}
 }
 
 /* Finds the entry of a completion, and lets it go. */
@@ -263,14 +336,15 @@ static void completion_came(struct ring *ring, pid_t thread, const struct io_uri
 		note("a completion of no entry that is known", NULL);
 		return;
 	}
+	bool is_last = !(cqe->flags & IORING_CQE_F_MORE);
+	if (is_last)
+		land_quiet_before(flight, thread);
 	flight->is_unsure = !is_sure;
 	completed(flight, thread, cqe->res, is_fresh && is_sure);
-	if (cqe->flags & IORING_CQE_F_MORE) {
+	if (is_last)
+		land(flight);
+	else
 		note("an entry with several completions: the last one is recorded", flight->entry);
-		return;
-	}
-	land_quiet_before(flight);
-	land(flight);
 }
 
 /* The tail of a queue where it moved further than entries are in flight: the kernel's own, since

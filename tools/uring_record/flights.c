@@ -1,4 +1,5 @@
 #include "flights.h"
+#include "aside.h"
 #include "given.h"
 #include "meetings.h"
 #include "memory.h"
@@ -17,15 +18,46 @@
 enum { MOST_QUIET = 4096, MOST_LOOKS = 64, MOST_ALIKE = 65536 };
 
 static u64 quiet_count;
-static u32 opens_in_flight;
+static u32 opens_in_flight, takers_in_flight, walks_in_flight, link_changes_in_flight;
 
 u32 count_opens_in_flight(void)
 {
 	return opens_in_flight;
 }
 
-/* Whether an entry posts nothing where it succeeds. */
-static bool is_quiet(const struct flight *flight)
+u32 count_takers_in_flight(void)
+{
+	return takers_in_flight;
+}
+
+u32 count_walks_in_flight(void)
+{
+	return walks_in_flight;
+}
+
+u32 count_link_changes_in_flight(void)
+{
+	return link_changes_in_flight;
+}
+
+void meets_in_table(struct flight *flight)
+{
+	flight->meets_table = true;
+	takers_in_flight -= flight->takes_number;
+	flight->takes_number = false;
+}
+
+void give_up_numbers(void)
+{
+	for (u32 at = 0; takers_in_flight && at < ring_count; at++) {
+		for (struct flight *it = rings[at]->first; it; it = it->next) {
+			if (it->takes_number)
+				meets_in_table(it);
+		}
+	}
+}
+
+bool is_quiet(const struct flight *flight)
 {
 	return flight->entry->sqe.flags & FLAG_SKIP;
 }
@@ -80,11 +112,13 @@ struct flight *new_flight(struct ring *ring, struct entry *entry, pid_t process)
 	return flight;
 }
 
-/* The earliest flight of a ring that posts nothing is let go. */
+/* The earliest flight of a ring that posts nothing is let go. What a given one did is not told. */
 static void land_a_quiet_one(struct ring *ring)
 {
 	for (struct flight *it = ring->first; it; it = it->next) {
 		if (is_quiet(it)) {
+			if (it->entry->is_aside)
+				leave(it);
 			land(it);
 			return;
 		}
@@ -123,8 +157,12 @@ void launch(struct flight *flight)
 	ring->last = flight;
 	join_chain(flight);
 	keep_spans(flight);
-	flight->opens = opens_in_table(&flight->entry->sqe) && !flight->entry->is_aside;
+	flight->opens = opens_in_table(&flight->entry->sqe);
+	flight->takes_number = flight->opens && !flight->entry->is_aside && !flight->meets_table;
 	opens_in_flight += flight->opens;
+	takers_in_flight += flight->takes_number;
+	walks_in_flight += flight->walks;
+	link_changes_in_flight += flight->changes_link;
 	ring->in_flight++;
 	flight->fills = fills_slots(flight);
 	ring->updating += flight->fills;
@@ -292,6 +330,12 @@ static void let_go_of_copies(struct flight *flight)
 	free(flight->copies);
 }
 
+/* Whether an open took its number in the replay as in the command. */
+static bool is_opened(const struct entry *entry)
+{
+	return entry->state == ENTRY_POSTED && entry->result >= 0 && !entry->is_aside;
+}
+
 void land(struct flight *flight)
 {
 	struct ring *ring = flight->ring;
@@ -315,14 +359,21 @@ void land(struct flight *flight)
 	if (flight->takes_place && closes_in_table(&flight->entry->sqe))
 		number_closed(flight->entry->sqe.fd);
 	opens_in_flight -= flight->opens;
+	takers_in_flight -= flight->takes_number;
+	walks_in_flight -= flight->walks;
+	link_changes_in_flight -= flight->changes_link;
+	if (flight->takes_number && !is_opened(flight->entry))
+		table_surprised();
 	mark_alike(flight->alike);
 	release(flight->moves);
 	release(flight->used);
 	release(flight->before);
 	release(flight->foreign_before);
 	release(flight->changes);
-	free(flight->names[0]);
-	free(flight->names[1]);
+	for (unsigned at = 0; at < 2; at++) {
+		free(flight->names[at]);
+		free(flight->unresolved[at]);
+	}
 	let_go_of_copies(flight);
 	quiet_count -= is_quiet(flight);
 	ring->in_flight--;
@@ -471,33 +522,6 @@ struct flight *flight_of(struct ring *ring, u64 user_data, i32 result, bool *is_
 	return found;
 }
 
-/* Lets go of one that has ended and posted nothing. */
-static void land_silent(struct flight *flight)
-{
-	if (flight->entry->state == ENTRY_UNSEEN)
-		flight->entry->state = ENTRY_SILENT;
-	if (flight->is_late)
-		note_late(flight->entry);
-	land(flight);
-}
-
-void land_quiet_before(const struct flight *flight)
-{
-	struct flight *next;
-
-	for (struct flight *it = flight->previous; it && it->chain == flight->chain; it = next) {
-		next = it->previous;
-		if (is_quiet(it))
-			land_silent(it);
-	}
-	for (struct flight *it = flight->ring->first; it && it->sequence < flight->barrier;
-	     it = next) {
-		next = it->next;
-		if (is_quiet(it) && it != flight)
-			land_silent(it);
-	}
-}
-
 struct touch *add_touch(struct flight *flight, enum touch_kind kind, bool writes)
 {
 	/* The last one is written over where there is no more room: vectors are put together
@@ -609,6 +633,24 @@ static void touch_file_named(const u8 *path, u32 length)
 	free(full);
 }
 
+/* A name of an entry: as the tree has it, where that is known. */
+static void touch_its_name(struct flight *flight, u32 which, bool writes)
+{
+	const char *name = flight->names[which];
+
+	if (name)
+		touch_name(flight, (const u8 *)name, (u32)strlen(name), writes);
+}
+
+void touch_opened(struct flight *flight)
+{
+	bool makes = flight->open_flags & O_CREAT && flight->used && !flight->used->inode;
+
+	touch_its_name(flight, 0, makes);
+	if (flight->used && flight->open_flags & O_TRUNC)
+		touch_file(flight, flight->used, 0, UINT64_MAX, true);
+}
+
 /* The names of an entry, and what an open cuts. */
 static void touch_names(struct flight *flight)
 {
@@ -617,20 +659,16 @@ static void touch_names(struct flight *flight)
 
 	switch (entry->sqe.opcode) {
 	case OP_OPENAT:
-		touch_name(flight, entry->side, entry->side_length,
-			   entry->sqe.open_flags & O_CREAT && flight->used && !flight->used->inode);
-		if (flight->used && entry->sqe.open_flags & O_TRUNC)
-			touch_file(flight, flight->used, 0, UINT64_MAX, true);
+		touch_opened(flight);
 		break;
 	case OP_STATX:
-		if (!stats_number(&entry->sqe))
-			touch_name(flight, entry->side, entry->side_length, false);
+		touch_its_name(flight, 0, false);
 		if (flight->used)
 			touch_file(flight, flight->used, size_now(flight->used), UINT64_MAX, false);
 		break;
 	case OP_UNLINKAT:
 	case OP_MKDIRAT:
-		touch_name(flight, entry->side, entry->side_length, true);
+		touch_its_name(flight, 0, true);
 		break;
 	case OP_RENAMEAT:
 	case OP_LINKAT:
@@ -639,8 +677,8 @@ static void touch_names(struct flight *flight)
 			touch_file_named(entry->side + 2, first);
 			touch_file_named(entry->side + 2 + first, entry->side_length - 2 - first);
 		}
-		touch_name(flight, entry->side + 2, first, entry->sqe.opcode == OP_RENAMEAT);
-		touch_name(flight, entry->side + 2 + first, entry->side_length - 2 - first, true);
+		touch_its_name(flight, 0, entry->sqe.opcode == OP_RENAMEAT);
+		touch_its_name(flight, 1, true);
 		break;
 	}
 }

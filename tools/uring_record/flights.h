@@ -30,17 +30,22 @@ struct flight {
 	struct ring *ring;
 	pid_t process;
 	u64 sequence, chain,
-		barrier;  /* its number in the ring, its chain's, and the ring's barrier for it */
-	u64 renewals;	  /* those of its ring when it was submitted */
-	bool is_deferred; /* it may begin later than its submission */
-	bool opens;	  /* it opens a number of the table in the replay */
-	bool fills;	  /* it fills slots, which is told behind it */
-	bool is_blind;	  /* what its slot has was not known when it was submitted */
+		barrier;   /* its number in the ring, its chain's, and the ring's barrier for it */
+	u64 renewals;	   /* those of its ring when it was submitted */
+	bool is_deferred;  /* it may begin later than its submission */
+	bool opens;	   /* it opens a number of the table */
+	bool takes_number; /* and takes one in the replay, as far as is known */
+	bool meets_table;  /* it opens a number, and meets another open or close in flight */
+	int number;	   /* the number that the replay gives it, -1 for none that is free */
+	u64 surprises;	   /* so many there were when that was reckoned */
+	bool fills;	   /* it fills slots, which is told behind it */
+	bool is_blind;	   /* what its slot has was not known when it was submitted */
 	struct entry *alike; /* entries that may have had its completion, with their result */
 	i32 alike_result;
 	u32 alike_count;
 	bool is_unsure;		       /* its result may be another's */
 	bool meets_name;	       /* another one in flight touches its name */
+	bool meets_maker;	       /* both make it, and not both by an open */
 	bool is_mixed;		       /* they had several results */
 	bool has_ended;		       /* so it has for sure, as has each of these */
 	bool is_late;		       /* it writes what a read in flight puts there */
@@ -54,10 +59,16 @@ struct flight {
 
 	struct opened *used;	/* the description that it works on or opens */
 	struct opened *changes; /* a file that an opcode changes which is not served */
-	char *names[2];	 /* of an entry that is outside: what it names, without dots and links */
-	bool is_nowhere; /* from where a name starts is not known */
-	u32 open_flags;	 /* of an open that is outside */
-	int *copies;	 /* of a FILES_UPDATE: the files of its descriptors */
+	char *names[2];	     /* what it names; of an entry that is outside without dots and links */
+	char *unresolved[2]; /* the same as full paths, where that is not known yet */
+	bool is_link[2];     /* it is a link, or no file or directory */
+	bool replaces;	     /* a link is moved over a file */
+	bool walks;	     /* a path goes through links */
+	bool changes_link;   /* it makes, moves or takes away one */
+	bool rests;	     /* what it names rests on one in flight whose result is given */
+	bool is_nowhere;     /* from where a name starts is not known */
+	u32 open_flags;	     /* of an open that is outside */
+	int *copies;	     /* of a FILES_UPDATE: the files of its descriptors */
 	u32 copy_count;
 	struct opened *moves; /* the description whose position it moves */
 	bool takes_place; /* a slot or number is taken, and has to be put back where the entry fails
@@ -87,14 +98,16 @@ struct flight *flight_of(struct ring *ring, u64 user_data, i32 result, bool *is_
 void mark_alike(struct entry *entry);
 /* Marks all entries that may have had another's result, of all rings. */
 void give_up_alike(void);
-/* Lets go of flights without a completion that have ended once this one has. */
-void land_quiet_before(const struct flight *flight);
+/* Whether an entry posts nothing where it succeeds. */
+bool is_quiet(const struct flight *flight);
 
 /* What a flight touches, once its fields, side bytes and description are known. */
 void look_at_touches(struct flight *flight);
 struct touch *add_touch(struct flight *flight, enum touch_kind kind, bool writes);
 void touch_file(struct flight *flight, struct opened *file, u64 from, u64 to, bool writes);
 void touch_name(struct flight *flight, const u8 *path, u32 length, bool writes);
+/* The same of the name of an open, and of what it cuts. */
+void touch_opened(struct flight *flight);
 
 /* Whether another read in flight fills memory that a flight reads or writes: then it is not known
  * whose bytes are there. */
@@ -115,7 +128,16 @@ void doubt_name(const u8 *path, u32 length, enum outside why);
 enum outside doubted_by(const char *path, u32 length);
 /* Something was submitted that is not in the trace: no result is compared from here on. */
 void lose(const char *what);
-/* How many that open a number of the table are. */
+/* How many that open a number of the table are in flight, and how many of these take one in the
+ * replay. */
 u32 count_opens_in_flight(void);
+u32 count_takers_in_flight(void);
+/* How many that go through links, and that change one, are in flight. */
+u32 count_walks_in_flight(void);
+u32 count_link_changes_in_flight(void);
+/* An open of a number meets another open or close: its result is given. */
+void meets_in_table(struct flight *flight);
+/* The same of all that are in flight: the recorder opens numbers meanwhile. */
+void give_up_numbers(void);
 
 #endif

@@ -335,6 +335,8 @@ void give_results(struct record *record)
 	for (struct entry *it = head; it < end; it++) {
 		if (awaits_slot(it))
 			put_aside(it, OUTSIDE_SLOT);
+		if (opens_in_table(&it->sqe) && !it->is_landed)
+			put_aside(it, OUTSIDE_UNSEEN); /* (its number is not known) */
 		if (it + 1 < end && goes_on(&it->sqe))
 			continue;
 		give_chain(head, it + 1);

@@ -2,6 +2,7 @@
 #include "flights.h"
 
 #include <fcntl.h>
+#include <stdio.h>
 #include <stdlib.h>
 #include <string.h>
 
@@ -79,7 +80,23 @@ struct entry *make_paths(u8 opcode, u32 flags, const char *old_path, const char 
 	memcpy(side + 2 + old_length, new_path, length - 2 - old_length);
 	struct entry *entry = make(our_ring(), &sqe, side, length, 0);
 	free(side);
-	return with_doubt(with_doubt(entry, old_path), new_path);
+	with_doubt(with_doubt(entry, old_path), new_path);
+	if (entry->outside != INSIDE && doubt_count) { /* (neither is told then) */
+		doubt_name((const u8 *)old_path, old_length, entry->outside);
+		doubt_name((const u8 *)new_path, (u32)strlen(new_path), entry->outside);
+	}
+	return entry;
+}
+
+struct entry *make_rename(u32 flags, char *const names[2], const bool is_link[2], bool replaces)
+{
+	if (!is_link[0])
+		return make_paths(OP_RENAMEAT, is_link[1] ? 0 : flags, names[0], names[1]);
+	if (is_link[1])
+		return NULL;
+	if (flags & RENAME_EXCHANGE)
+		return make_paths(OP_RENAMEAT, 0, names[1], names[0]);
+	return replaces ? make_path(OP_UNLINKAT, 0, names[1]) : NULL;
 }
 
 struct opened *make_again(struct ring *ring, u32 index, const char *path, int descriptor,

@@ -14,6 +14,11 @@ void make_close(struct ring *ring, u32 index, int number);
 /* UNLINKAT and MKDIRAT; RENAMEAT and LINKAT. */
 struct entry *make_path(u8 opcode, u32 flags, const char *path);
 struct entry *make_paths(u8 opcode, u32 flags, const char *old_path, const char *new_path);
+/* A rename as the replay has it, where links are in no tree: one that is moved over a file takes
+ * the file away (`replaces`), and one that a file is moved over is not there. NULL where nothing
+ * changes.
+ */
+struct entry *make_rename(u32 flags, char *const names[2], const bool is_link[2], bool replaces);
 
 /* Opens anew what a descriptor of the recorder leads to; the descriptor becomes the description's.
  */

@@ -1,8 +1,10 @@
 #include "meetings.h"
+#include "aside.h"
 #include "memory.h"
 #include "notes.h"
 #include "spans.h"
 
+#include <fcntl.h>
 #include <stdlib.h>
 #include <string.h>
 
@@ -41,10 +43,16 @@ static bool is_above(const struct touch *upper, const struct touch *lower)
 	       (upper->length == lower->length || lower->path[upper->length] == '/');
 }
 
+/* Whether a touch is that of an open that gets a number of the table. */
+static bool opens_any(const struct touch *touch)
+{
+	return touch->kind == TOUCH_TABLE && touch->from == ANY_NUMBER;
+}
+
 /* Whether two uses of the table, one of them an open or a close, depend on their order. */
 static bool numbers_meet(const struct touch *one, const struct touch *other)
 {
-	if (one->from == ANY_NUMBER || other->from == ANY_NUMBER)
+	if (opens_any(one) || opens_any(other))
 		return one->writes && other->writes;
 	return one->from == other->from;
 }
@@ -88,6 +96,10 @@ static bool is_ordered(const struct flight *earlier, const struct flight *later)
 /* The numbers of the table that are not known yet stand behind all others. */
 enum { WHOLE, PARTS, KIND_NAME_OF_FILE = 16 };
 #define NOT_KNOWN (1ULL << 32)
+
+/* Flights by the names that they make, move or take away: those that are decided, and those that
+ * are not. */
+static struct span *naming[2];
 
 /* Reads in flight by the memory that they fill: plain ones, and those into registered buffers. */
 static struct span *filling[2];
@@ -144,7 +156,7 @@ static void range_of(const struct touch *touch, u64 *from, u64 *to)
 	*to = touch->to;
 	if (touch->kind == TOUCH_POSITION)
 		*from = 0;
-	if (touch->kind == TOUCH_TABLE && touch->from == ANY_NUMBER)
+	if (opens_any(touch))
 		*from = NOT_KNOWN;
 	if (touch->kind == TOUCH_SLOT || touch->kind == TOUCH_TABLE ||
 	    touch->kind == TOUCH_POSITION || *to <= *from)
@@ -242,6 +254,87 @@ void keep_spans(struct flight *flight)
 			put_span(&filling[is_fixed(opcode)], flight, touch, space_of_touch(touch),
 				 from, to);
 	}
+	bool is_untold = flight->entry->is_aside || flight->entry->outside == OUTSIDE_OPCODE;
+	for (u32 at = 0; at < flight->touch_count; at++) {
+		const struct touch *touch = &flight->touches[at];
+		if (touch->kind == TOUCH_NAME && touch->writes)
+			put_name(&naming[is_untold], flight, touch);
+	}
+}
+
+/* Finds a flight whose place is before what comes into the trace now. */
+static bool look_at_naming(struct search *search, const struct span *span)
+{
+	const struct record *record = span->flight->entry->record;
+
+	if (!record || record->is_added) {
+		search->is_met = true;
+		search->from = UINT64_MAX; /* (one is enough) */
+	}
+	return false;
+}
+
+/* Finds any one. */
+static bool look_at_any(struct search *search, const struct span *span)
+{
+	(void)span;
+	search->is_met = true;
+	search->from = UINT64_MAX;
+	return false;
+}
+
+/* Searches for what changes a name in flight, or one above it, and maybe one below. */
+static void search_naming(bool is_untold, struct search *search, const u8 *path, u64 length,
+			  bool is_below)
+{
+	for (u64 at = 1; naming[is_untold] && at <= length && !search->is_met; at++) {
+		if (at < length && path[at] != '/')
+			continue;
+		search->space = space_of(TOUCH_NAME, number_of(path, at), 0);
+		search->from = WHOLE;
+		search->to = at == length && is_below ? PARTS + 1 : WHOLE + 1;
+		search_spans(naming[is_untold], search);
+	}
+}
+
+bool rests_on_given(const struct flight *flight)
+{
+	struct search search = { .look = look_at_any };
+
+	if (flight->walks && count_link_changes_in_flight())
+		return true;
+	for (u32 at = 0; at < flight->touch_count && !search.is_met; at++) {
+		const struct touch *touch = &flight->touches[at];
+		if (touch->kind == TOUCH_NAME)
+			search_naming(true, &search, touch->path, touch->length, touch->writes);
+	}
+	return search.is_met;
+}
+
+/* A flight changes a link: what goes through links, and is in flight, may have gone another way. */
+static void meet_walks(const struct flight *flight)
+{
+	for (u32 at = 0; count_walks_in_flight() && at < ring_count; at++) {
+		for (struct flight *it = rings[at]->first; it; it = it->next) {
+			if (it->walks && !is_ordered(it, flight))
+				put_outside(it->entry, OUTSIDE_ORDER);
+		}
+	}
+}
+
+char *name_in_replay(int descriptor)
+{
+	char *name = name_of(descriptor);
+
+	u32 length = name ? (u32)strlen(name) : 0;
+	struct search search = { .look = look_at_naming };
+
+	for (unsigned is_untold = 0; name && is_untold < 2; is_untold++)
+		search_naming(is_untold, &search, (const u8 *)name, length, false);
+	if (!name || (doubted_by(name, length) == INSIDE && !search.is_met))
+		return name;
+	free(name);
+	return NULL;
 }
 
 /* Sorts the flights of a ring that are not in its trees. */
@@ -272,7 +365,8 @@ static void sort_own(const struct flight *flight)
 	}
 }
 
-/* Marks an entry with a name of which it is not told what is there. */
+/* Marks an entry with a name of which it is not told what is there. What it changes is in doubt
+ * from then on, too, and what it opens is not known. */
 static void look_at_names(struct flight *flight)
 {
 	for (u32 at = 0; doubt_count && at < flight->touch_count; at++) {
@@ -282,7 +376,11 @@ static void look_at_names(struct flight *flight)
 					   : INSIDE;
 		if (why == INSIDE)
 			continue;
-		put_outside(flight->entry, why);
+		if (flight->asked_for.opcode == IORING_OP_OPENAT)
+			put_aside(flight->entry, why);
+		else
+			put_outside(flight->entry, why);
+		doubt_touched(flight, why);
 		note("a name of which it is not told what is there", flight->entry);
 		return;
 	}
@@ -321,15 +419,36 @@ struct meeting {
 	bool is_noted;
 };
 
+/* Whether two flights change one name, and what it is then depends on which comes first. */
+static bool make_one_name(const struct flight *one, const struct touch *touch,
+			  const struct flight *other, const struct touch *other_touch)
+{
+	bool is_one = touch->kind == TOUCH_NAME && touch->length == other_touch->length;
+	bool are_opens = one->asked_for.opcode == IORING_OP_OPENAT &&
+			 other->asked_for.opcode == IORING_OP_OPENAT;
+
+	return is_one && touch->writes && other_touch->writes && !are_opens;
+}
+
 /* What follows where two touches meet. */
 static void have_met(struct meeting *meeting, struct flight *earlier, const struct touch *touch)
 {
-	put_outside(earlier->entry, OUTSIDE_ORDER);
-	put_outside(meeting->flight->entry, OUTSIDE_ORDER);
+	if (opens_any(touch) || opens_any(meeting->touch)) {
+		/* (a close closes its number, whatever an open beside it gets) */
+		if (opens_any(touch))
+			meets_in_table(earlier);
+		if (opens_any(meeting->touch))
+			meets_in_table(meeting->flight);
+	} else {
+		put_outside(earlier->entry, OUTSIDE_ORDER);
+		put_outside(meeting->flight->entry, OUTSIDE_ORDER);
+	}
 	if (touch->kind == TOUCH_FILE && touch->writes && meeting->touch->writes)
 		unsettle(touch->file, OUTSIDE_ORDER);
 	if (touch->kind == TOUCH_NAME)
 		earlier->meets_name = meeting->flight->meets_name = true;
+	if (make_one_name(earlier, touch, meeting->flight, meeting->touch))
+		earlier->meets_maker = meeting->flight->meets_maker = true;
 	if (!meeting->is_noted)
 		note_pair(meeting_notes[touch->kind], earlier->entry, meeting->flight->entry);
 	meeting->is_noted = true;
@@ -346,7 +465,11 @@ static bool look_at_span(struct search *search, const struct span *span)
 	    touches_meet(span->touch, meeting->touch, earlier->is_deferred)) {
 		have_met(meeting, earlier, span->touch);
 		search->is_met = true;
+		if (opens_any(meeting->touch) && !opens_any(span->touch))
+			search->from = UINT64_MAX; /* (no close is marked: one is enough) */
 	}
+	if (opens_any(span->touch))
+		return earlier->meets_table;
 	return earlier->entry->outside != INSIDE && earlier->entry->outside != OUTSIDE_LATE &&
 	       (!is_name || earlier->meets_name);
 }
@@ -411,10 +534,12 @@ static void search_plain(struct meeting *meeting, struct ring *ring)
 {
 	const struct touch *touch = meeting->touch;
 	u64 space = space_of_touch(touch), from, to;
-	bool is_any = touch->kind == TOUCH_TABLE && touch->from == ANY_NUMBER;
+	bool is_any = opens_any(touch);
 
 	range_of(touch, &from, &to);
-	search_ring(meeting, ring, space, is_any ? 0 : from, to, touch->writes && !is_any, true);
+	search_ring(meeting, ring, space, from, to, touch->writes && !is_any, true);
+	if (is_any && !meeting->flight->meets_table)
+		search_ring(meeting, ring, space, 0, NOT_KNOWN, false, true);
 	if (touch->kind == TOUCH_TABLE && touch->writes && !is_any)
 		search_ring(meeting, ring, space, NOT_KNOWN, NOT_KNOWN + 1, false, true);
 }
@@ -537,6 +662,8 @@ void meet_others(struct flight *flight)
 {
 	struct meeting meeting = { .flight = flight };
 
+	if (flight->changes_link)
+		meet_walks(flight);
 	if (!flight->touch_count)
 		return;
 	sort_own(flight);

@@ -1,5 +1,6 @@
 #include "paths.h"
 
+#include <dirent.h>
 #include <errno.h>
 #include <fcntl.h>
 #include <limits.h>
@@ -247,6 +248,41 @@ enum name_kind look_through(char **path, bool follows)
 	return kind_of_name(found, follows);
 }
 
+bool is_file(const char *path)
+{
+	char *full = outside_path(path);
+	struct stat status;
+	bool is_there = !lstat(full, &status) && S_ISREG(status.st_mode);
+
+	free(full);
+	return is_there;
+}
+
+/* Whether a name in a directory is that of a file or directory of the tree. */
+static bool is_told_in(int directory, const char *name)
+{
+	struct stat status;
+
+	return strcmp(name, ".") && strcmp(name, "..") &&
+	       !fstatat(directory, name, &status, AT_SYMLINK_NOFOLLOW) &&
+	       (S_ISREG(status.st_mode) || S_ISDIR(status.st_mode));
+}
+
+bool holds_names(const char *path)
+{
+	char *full = outside_path(path);
+	DIR *directory = opendir(full);
+	const struct dirent *entry;
+	bool is_any = false;
+
+	while (directory && !is_any && (entry = readdir(directory)))
+		is_any = is_told_in(dirfd(directory), entry->d_name);
+	if (directory)
+		closedir(directory);
+	free(full);
+	return is_any;
+}
+
 bool starts_somewhere(pid_t process, int directory, const char *path)
 {
 	char *full = full_path(process, directory, path);
@@ -256,15 +292,40 @@ bool starts_somewhere(pid_t process, int directory, const char *path)
 	return is_known;
 }
 
-char *canonical_path(pid_t process, int directory, const char *path, bool *is_known)
+/* A path of a call as a full path of this machine, without slashes at its end, in memory of its own,
+ * or NULL. What ends in dots names a directory, which no call makes, moves or takes away so. */
+static char *stripped_path(pid_t process, int directory, const char *path, bool *is_name)
 {
-	char *full = *path ? full_path(process, directory, path) : NULL, *found = NULL;
+	char *full = *path ? full_path(process, directory, path) : NULL;
 
 	for (size_t end = full ? strlen(full) : 0; end > 1 && full[end - 1] == '/'; end--)
 		full[end - 1] = 0;
 	const char *last = full ? strrchr(full, '/') + 1 : "";
-	/* (what ends in dots names a directory, which no call makes, moves or takes away so) */
-	bool is_name = *last && strcmp(last, ".") && strcmp(last, "..");
+	*is_name = *last && strcmp(last, ".") && strcmp(last, "..");
+	return full;
+}
+
+char *full_name(pid_t process, int directory, const char *path)
+{
+	bool is_name;
+	char *full = stripped_path(process, directory, path, &is_name);
+
+	if (is_name)
+		return full;
+	free(full);
+	return NULL;
+}
+
+char *resolve_name(const char *full, bool *is_there)
+{
+	return resolved(full, is_there);
+}
+
+char *canonical_path(pid_t process, int directory, const char *path, bool *is_known)
+{
+	bool is_name;
+	char *full = stripped_path(process, directory, path, &is_name), *found = NULL;
+
 	*is_known = full && !is_name;
 	if (is_name)
 		found = resolved(full, is_known);

@@ -35,6 +35,10 @@ enum name_kind { NAME_TOLD, NAME_LINK, NAME_LARGE };
 /* Looks at a path of the trace. One that leads through symbolic links becomes the one that they
  * lead to, where that is below the root; `follows` says that the last name is followed too. */
 enum name_kind look_through(char **path, bool follows);
+/* Whether a path of the trace leads to a file that it may have; to a directory that holds files or
+ * directories. */
+bool is_file(const char *path);
+bool holds_names(const char *path);
 /* Whether it is known from which directory a path of a call starts. */
 bool starts_somewhere(pid_t process, int directory, const char *path);
 /* A path of a call as the trace has it, without dots and links, or NULL where it is not below the
@@ -48,5 +52,11 @@ char *followed_path(pid_t process, int directory, const char *path);
 bool device_of(pid_t process, int directory, const char *path, dev_t *device);
 /* A full path by which the recorder finds what a path of a process leads to, or NULL. */
 char *seen_path(pid_t process, int directory, const char *path);
+/* A path of a call as a full path of this machine, as it stands, in memory of its own, or NULL
+ * where it is none of a name. */
+char *full_name(pid_t process, int directory, const char *path);
+/* The same as the trace has it, without dots and links, or NULL where it is not below the root.
+ * `is_there` says whether its directory is. */
+char *resolve_name(const char *full, bool *is_there);
 
 #endif

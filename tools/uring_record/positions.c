@@ -1,5 +1,6 @@
 #include "positions.h"
 #include "made.h"
+#include "meetings.h"
 #include "notes.h"
 #include "sets.h"
 #include "table.h"
@@ -25,7 +26,7 @@ static bool open_anew(struct ring *ring, const struct io_uring_sqe *sqe)
 	if (!(sqe->flags & FLAG_FIXED))
 		return open_number_anew(sqe->fd);
 	struct opened *opened = ring->now[sqe->fd];
-	char *name = name_of(opened->descriptor);
+	char *name = name_in_replay(opened->descriptor);
 	if (name) {
 		int copy = fcntl(opened->descriptor, F_DUPFD_CLOEXEC, 0);
 		ring->now[sqe->fd] = make_again(ring, (u32)sqe->fd + 1, name, copy, 0);

@@ -1,5 +1,6 @@
 #include "sets.h"
 #include "begun.h"
+#include "meetings.h"
 #include "notes.h"
 #include "table.h"
 
@@ -177,7 +178,7 @@ struct opened *set_opened(struct holder to, int copy)
 		set_taken(to);
 		return new_opened(copy, 0);
 	}
-	char *name = name_of(copy);
+	char *name = name_in_replay(copy);
 	u64 position = position_of(copy);
 	bool is_said = name && strlen(name) <= MOST_PATH;
 	if (is_said)

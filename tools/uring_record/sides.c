@@ -138,21 +138,21 @@ static bool has_dots(const char *path)
 	       !strcmp(path, "..") || !strncmp(path, "../", 3);
 }
 
-/* Notes and marks an entry whose path the trace cannot have. */
-static void look_at_path(struct entry *entry, char **path, bool is_known)
+/* Notes and marks an entry whose path the trace cannot have; tells what it leads to. */
+static enum name_kind look_at_path(struct entry *entry, char **path, bool is_known)
 {
 	enum name_kind kind = NAME_TOLD;
 
 	if (!is_known) {
 		note("a path outside the root", entry);
 		put_aside(entry, OUTSIDE_PATH);
-		return;
+		return kind;
 	}
 	if (has_dots(*path) || (**path && (*path)[strlen(*path) - 1] == '/')) {
 		note("a path with dots or with a slash at its end, which the replay refuses",
 		     entry);
 		put_aside(entry, OUTSIDE_PATH);
-		return;
+		return kind;
 	}
 	kind = look_through(path, follows_last(&entry->sqe));
 	if (kind == NAME_LINK) {
@@ -162,19 +162,20 @@ static void look_at_path(struct entry *entry, char **path, bool is_known)
 		note("a file of more than 2^40 bytes, which no trace can have", entry);
 		put_aside(entry, OUTSIDE_LARGE);
 	}
+	return kind;
 }
 
-/* What an entry names in the tree that is or may come to be outside. A link is not in the tree. */
-static char *real_name(const struct flight *flight, int directory, const char *text,
-		       const char *path)
+void name_outside(struct flight *flight, u32 which, int directory, const char *text)
 {
-	const struct entry *entry = flight->entry;
-	bool is_known;
+	char *full = full_name(flight->process, directory, text);
+	bool is_there = true;
 
-	if (reason_of(entry) == OUTSIDE_LINK && entry->sqe.opcode != OP_OPENAT)
-		return NULL;
-	return entry->is_aside ? canonical_path(flight->process, directory, text, &is_known)
-			       : copy_text(path);
+	if (full)
+		flight->names[which] = resolve_name(full, &is_there);
+	if (is_there)
+		free(full);
+	else
+		flight->unresolved[which] = full;
 }
 
 /* The first or second path of an entry as the trace has it, in memory of its own. */
@@ -189,10 +190,16 @@ static char *take_path(struct flight *flight, u32 which, pid_t thread, int direc
 		return copy_text("");
 	}
 	char *path = translate(flight->process, directory, text, &is_known);
-	look_at_path(entry, &path, is_known);
+	char *walked = copy_text(path);
+	flight->is_link[which] = look_at_path(entry, &path, is_known) == NAME_LINK;
+	flight->walks |= strcmp(walked, path) || has_dots(path);
+	free(walked);
 	flight->is_nowhere |=
 		entry->is_aside && *text && !starts_somewhere(flight->process, directory, text);
-	flight->names[which] = real_name(flight, directory, text, path);
+	if (entry->is_aside)
+		name_outside(flight, which, directory, text);
+	else
+		flight->names[which] = copy_text(path);
 	free(text);
 	return path;
 }
@@ -222,6 +229,7 @@ static void take_two_paths(struct flight *flight, pid_t thread)
 	memcpy(entry->side + 2 + length, other, entry->side_length - 2 - length);
 	free(one);
 	free(other);
+	flight->replaces = flight->is_link[0] && flight->names[1] && is_file(flight->names[1]);
 }
 
 /* A STATX by a number has no path. Where it has one, or is of the working directory, it is outside.

@@ -347,7 +347,7 @@ static void find_description(struct flight *flight)
 			put_aside(entry, OUTSIDE_DESCRIPTOR);
 		}
 	}
-	if (opcode == OP_STATX && flight->names[0])
+	if (opcode == OP_STATX && flight->names[0] && !flight->is_link[0])
 		flight->used = new_direct(flight->names[0], O_RDONLY);
 	if (!uses_file(&entry->sqe))
 		return;
@@ -389,6 +389,7 @@ static void take_unserved(struct flight *flight, pid_t thread)
 
 	note(outside_notes[OUTSIDE_OPCODE], entry);
 	look_at_unserved(flight, thread);
+	meet_others(flight);
 	if (options.replace)
 		replace_by_nop(entry);
 	if (options.format == 3)
@@ -416,6 +417,26 @@ static void take_filled(struct flight *flight)
 	flight->is_late = !is_fixed(opcode);
 }
 
+/* Whether an opcode makes, moves or takes away the link that it names. */
+static bool changes_link(u8 opcode)
+{
+	return opcode == OP_UNLINKAT || opcode == OP_RENAMEAT || opcode == OP_LINKAT;
+}
+
+/* An entry whose names rest on what one in flight makes, which is told at its end, is put aside. */
+static void look_at_names_in_flight(struct flight *flight)
+{
+	struct entry *entry = flight->entry;
+
+	flight->changes_link =
+		changes_link(entry->sqe.opcode) && (flight->is_link[0] || flight->is_link[1]);
+	flight->rests = rests_on_given(flight);
+	if (!flight->rests)
+		return;
+	note("an entry on a name that another one in flight changes, whose result is given", entry);
+	put_aside(entry, OUTSIDE_CHAIN);
+}
+
 /* An entry of an opcode that is served: what it points to, what it works on, and what it meets. */
 static void take_served(struct flight *flight, const struct chain *chain, pid_t thread)
 {
@@ -427,6 +448,7 @@ static void take_served(struct flight *flight, const struct chain *chain, pid_t 
 	if (is_fixed(entry->sqe.opcode))
 		find_buffer(flight);
 	look_at_touches(flight);
+	look_at_names_in_flight(flight);
 	if (entry->sqe.opcode == OP_WRITE_FIXED)
 		fill_buffer(flight, thread);
 	meet_others(flight);
@@ -471,8 +493,10 @@ static void take_entry(struct ring *ring, struct entry *entry, struct chain *cha
 		options.format != 3 && (entry->is_aside || entry->outside == OUTSIDE_DESCRIPTOR ||
 					(why == OUTSIDE_OPCODE && !entry->replaced));
 	chain->may_fill |= is_given(entry) && may_fill_memory(entry);
-	if (!entry->record->taker && may_take_number(flight))
-		entry->record->taker = (u32)(entry - entry->record->entries) + 1;
+	if (opens_in_table(&entry->sqe)) {
+		flight->number = lowest_free(count_takers_in_flight());
+		flight->surprises = count_surprises();
+	}
 	launch(flight);
 }
 
@@ -634,9 +658,12 @@ struct record *submission(struct ring *ring, pid_t thread, pid_t process, u32 wa
 	}
 	if (options.format == 3) /* (with its slots as they are before these entries) */
 		begin_ring(ring);
-	if (opens && options.format != 1)
+	/* (an open beside others that are not ordered is given, whatever it gets) */
+	bool is_matched = record->is_drained || !count_opens_in_flight();
+	if (opens && options.format != 1 && is_matched)
 		match_lowest(ring->submitter, opens, count_opens_in_flight());
 	take_entries(ring, thread, record);
+	begin_batch();
 	record->is_open = true;
 	add_record(record);
 	return record;

@@ -1,5 +1,6 @@
 #include "table.h"
 #include "made.h"
+#include "meetings.h"
 #include "notes.h"
 #include "sets.h"
 #include "start.h"
@@ -13,13 +14,18 @@ enum place_state { PLACE_FREE, PLACE_TAKEN, PLACE_FILE };
 struct place {
 	enum place_state state;
 	struct opened *opened;
-	pid_t process;	  /* whose descriptor it was learned from */
-	bool is_closing;  /* an entry in flight closes it */
-	u64 batch;	  /* the call in which the number was looked at */
-	enum leads leads; /* and where it led */
+	pid_t process;		     /* whose descriptor it was learned from */
+	bool is_closing;	     /* an entry in flight closes it */
+	const struct opened *closed; /* what that entry found there */
+	u64 batch;		     /* the call in which the number was looked at */
+	enum leads leads;	     /* and where it led */
 };
 static struct place places[MOST_TABLE];
 static u64 batch = 1;
+/* How often the table came to be otherwise than the numbers of opens were reckoned with; and
+ * whether some of this call are. */
+static u64 surprises;
+static bool is_reckoned;
 
 /* A file that loses its name at once, for numbers that are taken by what is no file of the tree. */
 static const char taken_name[] = "/.uring_record.taken";
@@ -27,6 +33,7 @@ static const char taken_name[] = "/.uring_record.taken";
 void begin_batch(void)
 {
 	batch++;
+	is_reckoned = false;
 }
 
 void start_place(int number, i64 description)
@@ -63,9 +70,16 @@ bool is_taken(int number)
 	return number >= 0 && (u32)number < trace.table_size && places[number].state != PLACE_FREE;
 }
 
+/* A number comes to be free in the replay before the entries of this call, or is so no more. */
+static void changes_free(void)
+{
+	surprises += is_reckoned;
+}
+
 /* Closes a number in the replay. */
 static void close_number(int number)
 {
+	changes_free();
 	if (options.format == 3)
 		set_nothing(of_number(number));
 	else
@@ -86,24 +100,31 @@ static void leave_number(int number)
 	places[number].state = PLACE_TAKEN;
 }
 
-/* Opens a path at a number: lower ones that are free are taken meanwhile. The descriptor becomes
- * its own. */
-static void open_number(pid_t process, int number, const char *path, int copy)
+/* Makes an open of a path at a number: lower ones that are free are taken meanwhile. */
+static void make_open_at(int number, const char *path, u32 flags)
 {
 	int lower[MOST_TABLE];
-	u32 count = 0, flags = (u32)fcntl(copy, F_GETFL) & (O_ACCMODE | O_APPEND);
+	u32 count = 0;
 
+	give_up_numbers();
 	for (int at = 0; at < number; at++) {
 		if (places[at].state != PLACE_FREE)
 			continue;
 		make_open(our_ring(), 0, path, flags, at);
 		lower[count++] = at;
 	}
-	places[number].process = process;
-	places[number].opened = make_again(our_ring(), 0, path, copy, number);
-	places[number].state = PLACE_FILE;
+	make_open(our_ring(), 0, path, flags, number);
 	while (count)
 		make_close(our_ring(), 0, lower[--count]);
+}
+
+/* Opens a path at a number. The descriptor becomes its own. */
+static void open_number(pid_t process, int number, const char *path, int copy)
+{
+	make_open_at(number, path, (u32)fcntl(copy, F_GETFL) & (O_ACCMODE | O_APPEND));
+	places[number].process = process;
+	places[number].opened = new_opened(copy, 0);
+	places[number].state = PLACE_FILE;
 }
 
 /* Opens the file of a descriptor of the recorder at a number in place of what is there; false where
@@ -115,6 +136,7 @@ static bool open_at_number(pid_t process, int number, int copy)
 	if (options.format == 3) {
 		struct opened *opened = set_opened(of_number(number), copy);
 		if (opened) {
+			changes_free();
 			release(place->opened);
 			*place = (struct place){ .state = PLACE_FILE,
 						 .opened = opened,
@@ -123,11 +145,12 @@ static bool open_at_number(pid_t process, int number, int copy)
 		}
 		return opened;
 	}
-	char *name = name_of(copy);
+	char *name = name_in_replay(copy);
 	if (!name)
 		return false;
 	if (place->state != PLACE_FREE)
 		close_number(number);
+	changes_free();
 	open_number(process, number, name, copy);
 	free(name);
 	return true;
@@ -163,8 +186,10 @@ enum leads ensure_number(pid_t process, int number)
 	if ((u32)number >= trace.table_size)
 		return is_open(process, number) ? LEADS_ELSEWHERE : LEADS_NOWHERE;
 	struct place *place = &places[number];
-	if (place->is_closing)
+	if (place->is_closing &&
+	    (!is_open(process, number) || leads_to(process, number, place->closed)))
 		return LEADS_TO_FILE;
+	place->is_closing = false; /* (it is closed, and another open got it) */
 	if (place->batch == batch)
 		return place->leads;
 	place->batch = batch;
@@ -188,7 +213,7 @@ enum leads ensure_slot(struct ring *ring, pid_t process, int number)
 	if (copy < 0)
 		return LEADS_NOWHERE;
 	i64 known = ring->slots[slot] || ring->now[slot] ? -1 : description_of(copy, false);
-	char *name = known < 0 ? name_of(copy) : NULL;
+	char *name = known < 0 ? name_in_replay(copy) : NULL;
 	ring->now[slot] = release(ring->now[slot]);
 	if (known >= 0) {
 		ring->slots[slot] = (u32)known + 1;
@@ -209,10 +234,11 @@ bool take_as_other(int number)
 	struct place *place = &places[number];
 	if (place->state != PLACE_FREE)
 		return place->state == PLACE_TAKEN;
+	changes_free();
 	if (options.format == 3) {
 		set_taken(of_number(number));
 	} else {
-		make_open(our_ring(), 0, taken_name, O_CREAT, number);
+		make_open_at(number, taken_name, O_CREAT);
 		make_path(OP_UNLINKAT, 0, taken_name);
 	}
 	place->state = PLACE_TAKEN;
@@ -250,6 +276,26 @@ void match_lowest(pid_t process, u32 opens, u32 opens_in_flight)
 	}
 }
 
+int lowest_free(u32 others)
+{
+	is_reckoned = true;
+	for (u32 number = 0; number < trace.table_size; number++) {
+		if (places[number].state == PLACE_FREE && !others--)
+			return (int)number;
+	}
+	return -1;
+}
+
+void table_surprised(void)
+{
+	surprises++;
+}
+
+u64 count_surprises(void)
+{
+	return surprises;
+}
+
 void let_go_of_numbers(pid_t process)
 {
 	for (u32 number = 0; number < MOST_TABLE; number++) {
@@ -273,7 +319,7 @@ void let_go_of_closed(void)
 bool open_number_anew(int number)
 {
 	struct opened *opened = opened_at(number);
-	char *name = opened && opened->descriptor >= 0 ? name_of(opened->descriptor) : NULL;
+	char *name = opened && opened->descriptor >= 0 ? name_in_replay(opened->descriptor) : NULL;
 
 	if (!name)
 		return false;
@@ -295,6 +341,7 @@ struct opened *take_number(int number, bool *was_taken)
 	places[number].opened = NULL;
 	places[number].state = PLACE_FREE;
 	places[number].is_closing = true;
+	places[number].closed = opened;
 	return opened;
 }
 

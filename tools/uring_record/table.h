@@ -25,6 +25,12 @@ enum leads ensure_slot(struct ring *ring, pid_t process, int number);
 /* Makes the lowest free numbers those of the command: as many as are opened, behind those in
  * flight. */
 void match_lowest(pid_t process, u32 opens, u32 opens_in_flight);
+/* The lowest free number in the replay behind so many others, or -1. */
+int lowest_free(u32 others);
+/* The table came to be otherwise than these were reckoned with, since an entry in flight ended in
+ * another way; and how often it did. */
+void table_surprised(void);
+u64 count_surprises(void);
 /* Opens a number anew, so that its position is 0; false where its file has no name. */
 bool open_number_anew(int number);
 

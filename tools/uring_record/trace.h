@@ -133,8 +133,6 @@ struct record {
 	bool is_drained; /* the kernel was given IO_DRAIN on its heads */
 	u32 from;	 /* where in the queue its call begins */
 	u32 claimed;	 /* how many places of the queue its call takes, or would have taken */
-	u32 taker; /* the first entry, from 1, that may take a number which the replay does not */
-	bool has_taken; /* such an entry did */
 	struct entry *entries;
 	u16 buffer;
 	u32 offset;

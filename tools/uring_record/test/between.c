@@ -7,10 +7,13 @@
  * without a name. updated: files that come into slots later. chosen: slots that the kernel chooses.
  * taken: numbers of what is no file. root: the root itself. nameless: files that lost their name.
  * passed: slots and numbers that entries fill which no replay decides. left: copies that the
- * recorder has let go of. any SEED: calls and entries as they are drawn, with any result. */
+ * recorder has let go of. held: a thread holds a number while it waits in an ordinary open. beside:
+ * an entry does. at_once: opens in flight at once. making: a thread makes files by ordinary calls.
+ * any SEED: calls and entries as they are drawn, with any result. */
 #include "raw.h"
 
 #include <linux/openat2.h>
+#include <pthread.h>
 #include <signal.h>
 #include <sys/file.h>
 #include <sys/stat.h>
@@ -349,6 +352,160 @@ static void left(void)
 	reads("the locked file", locked, 0, AT_POSITION, 5, 0);
 }
 
+/* Numbers that others get */
+
+static int lowest_number(void)
+{
+	int lowest = dup(0);
+
+	if (lowest < 0 || close(lowest))
+		fail("dup");
+	return lowest;
+}
+
+/* Waits until something that opens a pipe holds the lowest number; it has no file yet. */
+static void wait_until_held(int number)
+{
+	while (lowest_number() == number)
+		usleep(1000);
+}
+
+/* Opens a pipe for reading, and closes it. */
+static void *read_pipe(void *unused)
+{
+	int number = open("pipe", O_RDONLY);
+
+	(void)unused;
+	if (number < 0 || close(number))
+		fail("pipe");
+	return NULL;
+}
+
+/* Opens by entries while something else holds a number: it is not free, and it has no file. */
+static void opens_beside(int held)
+{
+	for (int at = 0; at < 3; at++) {
+		one("an open", opens("new", O_RDWR | O_CREAT, 0), held + 1);
+		writes("its file", held + 1, 0, 0);
+		one("another one", opens("a", O_RDWR | O_TRUNC, 0), held + 2);
+		writes("its file", held + 2, 0, AT_POSITION);
+		closes("the first", held + 1, 0, 0);
+		one("an open in its place", opens("new", O_RDONLY, 0), held + 1);
+		reads("its file", held + 1, 0, AT_POSITION, 4, 't');
+		closes("a close", held + 1, 0, 0);
+		closes("a close", held + 2, 0, 0);
+	}
+}
+
+/* The same once nothing holds one. */
+static void opens_again(int number)
+{
+	one("an open later", opens("a", O_RDONLY, 0), number);
+	reads("its file", number, 0, 0, 4, 't');
+	one("an open of none", opens("none", O_RDONLY, 0), -ENOENT);
+	one("the next", opens("a", O_RDONLY, 0), number + 1);
+	closes("a close", number, 0, 0);
+	reads("the other", number + 1, 0, AT_POSITION, 4, 't');
+}
+
+static void held(void)
+{
+	pthread_t thread;
+
+	close(new_file("a", O_RDONLY));
+	int number = lowest_number();
+	if (mkfifo("pipe", 0644) || pthread_create(&thread, NULL, read_pipe, NULL))
+		fail("pipe");
+	wait_until_held(number);
+	opens_beside(number);
+	close(open("pipe", O_WRONLY));
+	pthread_join(thread, NULL);
+	opens_again(number);
+}
+
+static void beside(void)
+{
+	struct ring other;
+
+	open_ring(&other, ENTRIES, 0);
+	close(new_file("a", O_RDONLY));
+	int number = lowest_number();
+	if (mkfifo("pipe", 0644))
+		fail("pipe");
+	struct io_uring_sqe *sqe = add(&other, OP_OPENAT, AT_FDCWD, "pipe", 0, 0);
+	sqe->flags = FLAG_ASYNC;
+	submit(&other, 0);
+	wait_until_held(number);
+	opens_beside(number);
+	close(open("pipe", O_WRONLY));
+	expect("the pipe", take(&other), number);
+	add(&other, OP_CLOSE, number, NULL, 0, 0);
+	expect("its close", run_one(&other), 0);
+	opens_again(number);
+}
+
+/* Files that are opened, written and closed all at once, a few times: numbers as they come. */
+static void at_once(void)
+{
+	static const char *const names[] = { "a", "b", "c", "d", "e", "f", "g", "h" };
+	enum { FILES = sizeof names / sizeof *names };
+
+	for (int round = 0; round < 20; round++) {
+		int numbers[FILES], flags = O_RDWR | O_CREAT | (round & 1 ? O_TRUNC : 0);
+		for (int at = 0; at < FILES; at++)
+			opens(names[at], flags, 0)->flags = round & 2 ? FLAG_ASYNC : 0;
+		submit(&ring, FILES);
+		for (int at = 0; at < FILES; at++)
+			numbers[at] = take(&ring);
+		for (int at = 0; at < FILES; at++)
+			add(&ring, OP_WRITE, numbers[at], names[at], 1, (uint64_t)round);
+		submit(&ring, FILES);
+		for (int at = 0; at < FILES; at++)
+			expect("a write", take(&ring), 1);
+		int number = 0;
+		for (int at = 0; at < FILES; at++)
+			add(&ring, OP_CLOSE, numbers[at], NULL, 0, 0)->flags = FLAG_ASYNC;
+		opens("a", O_RDONLY, 0);
+		submit(&ring, FILES + 1);
+		for (int at = 0; at <= FILES; at++)
+			number += take(&ring); /* (a close gives 0) */
+		closes("the last", number, 0, 0);
+	}
+}
+
+/* Makes files, and takes their names away. */
+static volatile bool is_over;
+static void *make_files(void *unused)
+{
+	char name[16];
+
+	(void)unused;
+	for (unsigned at = 0; !is_over; at++) {
+		snprintf(name, sizeof name, "made%u", at);
+		int made = open(name, O_CREAT | O_RDWR, 0644);
+		if (made < 0 || unlink(name) || close(made))
+			fail(name);
+	}
+	return NULL;
+}
+
+static void making(void)
+{
+	pthread_t thread;
+
+	new_file("a", O_RDWR);
+	if (pthread_create(&thread, NULL, make_files, NULL))
+		fail("a thread");
+	for (int round = 0; round < 300; round++) {
+		opens("a", O_RDWR, 0);
+		int number = run_one(&ring);
+		writes("a file", number, 0, 0);
+		closes("a close", number, 0, 0);
+	}
+	is_over = true;
+	pthread_join(thread, NULL);
+}
+
 /* The next number below a limit of those that a seed gives. */
 static uint64_t drawn;
 static unsigned draw(unsigned limit)
@@ -573,7 +730,8 @@ static void any(void)
 static const struct mode modes[] = {
 	{ "shared", shared }, { "moved", moved }, { "updated", updated }, { "chosen", chosen },
 	{ "taken", taken },   { "root", root },	  { "left", left },	  { "nameless", nameless },
-	{ "passed", passed }, { "any", any },
+	{ "passed", passed }, { "held", held },	  { "beside", beside },	  { "at_once", at_once },
+	{ "making", making }, { "any", any },
 };
 
 int main(int count, char **words)

@@ -5,7 +5,8 @@
  * served: what version 3 decides. chains: members that are given, which break their chain or not.
  * refused: chains that the kernel refuses on submission. errors: errors that the world does not
  * decide, and some that it does. filled: writes of what a member before them put there. quiet:
- * members that post nothing. told: what a STATX tells of a path, and of what is open. */
+ * members that post nothing. names: such members that make and take away names. told: what a STATX
+ * tells of a path, and of what is open. */
 #include "raw.h"
 
 #include <poll.h>
@@ -247,6 +248,48 @@ static void quiet(void)
 	run("the last");
 }
 
+/* A member of a chain with a path, which posts nothing. */
+static struct io_uring_sqe *ask_silently(unsigned char opcode, const char *path, unsigned length)
+{
+	struct io_uring_sqe *sqe = ask(opcode, AT_FDCWD, path, length, 0, SILENT);
+
+	sqe->flags = FLAG_LINK | FLAG_SKIP;
+	return sqe;
+}
+
+/* The number that the next open gets. */
+static int lowest_number(void)
+{
+	int number = dup(0);
+
+	if (number < 0 || close(number))
+		fail("dup");
+	return number;
+}
+
+/* Names in a path that no replay walks, and the number of an open that nobody is told. */
+static void names(void)
+{
+	int number = lowest_number();
+
+	if (mkdir("d", 0755) || mkdir("e", 0755))
+		fail("mkdir");
+	ask_silently(OP_MKDIRAT, "d/../made", 0755);
+	ask_silently(OP_MKDIRAT, "d/../made/in it", 0755);
+	ask_silently(OP_UNLINKAT, "d/../e", 0)->unlink_flags = AT_REMOVEDIR;
+	ask_write("told", 0, 4);
+	run("names");
+	ask_silently(OP_OPENAT, "new", 0644)->open_flags = O_RDWR | O_CREAT;
+	ask_write("end", 4, 3);
+	run("an open of a number that is not told");
+	int other = lowest_number();
+	ask(OP_OPENAT, AT_FDCWD, "new", 0, 0, other)->open_flags = O_RDWR;
+	run("another open");
+	ask(OP_WRITE, number, "by a guess", 10, 0, 10);
+	ask(OP_WRITE, other, "known", 5, 10, 5);
+	run("writes");
+}
+
 /* A STATX of a path. */
 static struct io_uring_sqe *ask_stat(const char *path, unsigned flags, int result)
 {
@@ -302,7 +345,7 @@ static void told(void)
 static const struct mode modes[] = {
 	{ "served", served }, { "chains", chains }, { "refused", refused },
 	{ "errors", errors }, { "filled", filled }, { "filled_buffer", filled_buffer },
-	{ "quiet", quiet },   { "told", told },
+	{ "quiet", quiet },   { "names", names },   { "told", told },
 };
 
 int main(int count, char **words)

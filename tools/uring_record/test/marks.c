@@ -1,6 +1,10 @@
 /* Programs of which the recorder cannot tell all: marks MODE, in an empty directory whose parent
  * can be written too. What it does not know is to be marked. Ends with 77 where the kernel lacks
- * what a mode needs. */
+ * what a mode needs.
+ *
+ * Those of links: links, over_links (names that are moved over links, and links over names),
+ * links_in_chains (a chain makes or takes away a link, and goes through it), any_links SEED (what
+ * is drawn, each by a call or an entry). */
 #include "raw.h"
 
 #include <pthread.h>
@@ -80,6 +84,227 @@ static void links(void)
 	expect("an unlink", run_one(&ring), 0);
 	if (symlink("a", "third") || rename("third", "fourth") || unlink("fourth"))
 		fail("rename");
+}
+
+static void make_file(const char *name)
+{
+	int made = open(name, O_CREAT | O_WRONLY | O_TRUNC, 0644);
+
+	if (made < 0 || write(made, name, strlen(name)) != (ssize_t)strlen(name) || close(made))
+		fail(name);
+}
+
+static void make_link(const char *text, const char *name)
+{
+	if (symlink(text, name))
+		fail(name);
+}
+
+/* An entry with two paths. */
+static struct io_uring_sqe *add_two(unsigned char opcode, const char *one, const char *other)
+{
+	return add(&ring, opcode, AT_FDCWD, one, (unsigned)AT_FDCWD, (uint64_t)(uintptr_t)other);
+}
+
+/* Moves a name by a call, or by an entry; gives what that gave. */
+static int moves(bool is_call, const char *one, const char *other, unsigned flags)
+{
+	if (is_call)
+		return (int)syscall(SYS_renameat2, AT_FDCWD, one, AT_FDCWD, other, flags);
+	add_two(OP_RENAMEAT, one, other)->rename_flags = flags;
+	return run_one(&ring);
+}
+
+/* Looks through an entry at what a name leads to, and has so many bytes. */
+static void reads_name(const char *name, int wanted)
+{
+	add_open(&ring, name, O_RDONLY, 0);
+	int number = run_one(&ring);
+	add(&ring, OP_READ, number, bytes, BYTES, 0);
+	expect(name, run_one(&ring), wanted);
+	add(&ring, OP_CLOSE, number, NULL, 0, 0);
+	expect("a close", run_one(&ring), 0);
+}
+
+/* Files over links, links over files, and directories that hold a link alone, in a directory. */
+static void over_links_by(bool is_call, const char *folder)
+{
+	if (mkdir(folder, 0755) || chdir(folder) || mkdir("full", 0755) || mkdir("empty", 0755))
+		fail(folder);
+	make_link("nowhere", "full/link");
+	add(&ring, OP_UNLINKAT, AT_FDCWD, "full", 0, 0)->unlink_flags = AT_REMOVEDIR;
+	expect("a directory with a link", run_one(&ring), -ENOTEMPTY);
+	add_two(OP_RENAMEAT, "empty", "full");
+	expect("a directory onto it", run_one(&ring), -ENOTEMPTY);
+	make_file("f");
+	expect("a file over a link", moves(is_call, "f", "full/link", 0), 0);
+	reads_name("full/link", 1);
+	make_link("empty", "l");
+	make_file("file");
+	expect("a link over a file", moves(is_call, "l", "file", 0), 0);
+	add_open(&ring, "file/new", O_RDWR | O_CREAT, 0);
+	if (run_one(&ring) < 0)
+		fail("file/new");
+	expect("a link to a new name", moves(is_call, "file", "k", 0), 0);
+	make_file("one");
+	expect("a file for a link", moves(is_call, "k", "one", 2), 0);
+	reads_name("k", 3);
+	expect("a link for a file", moves(is_call, "k", "one", 2), 0);
+	reads_name("one", 3);
+	expect("another name of a link", link("k", "k2"), 0);
+	expect("another name of a file", linkat(AT_FDCWD, "one", AT_FDCWD, "two", 0), 0);
+	expect("a name through a link", linkat(AT_FDCWD, "k/new", AT_FDCWD, "three", 0), 0);
+	add_two(OP_RENAMEAT, "two", "k2");
+	expect("a name over a link", run_one(&ring), 0);
+	reads_name("k2", 3);
+	if (chdir(".."))
+		fail("chdir");
+}
+
+static void over_links(void)
+{
+	over_links_by(true, "calls");
+	over_links_by(false, "entries");
+}
+
+/* A chain by which the kernel goes: its members have these results. */
+static void runs_chain(const char *what, const int *wanted)
+{
+	unsigned count = ring.added;
+
+	for (unsigned at = 0; at + 1 < count; at++)
+		ring.sqes[(*ring.sq_tail + at) & *ring.sq_mask].flags |= FLAG_HARD;
+	submit(&ring, count);
+	for (unsigned at = 0; at < count; at++)
+		expect(what, take(&ring), wanted[at]);
+}
+
+static void links_in_chains(void)
+{
+	int number = dup(0);
+
+	if (number < 0 || close(number) || mkdir("d", 0755) || mkdir("e", 0755))
+		fail("d");
+	make_file("d/file");
+	add(&ring, SYMLINKAT, AT_FDCWD, "d", 0, (uint64_t)(uintptr_t) "l");
+	add_open(&ring, "l/file", O_RDWR, 0);
+	add(&ring, OP_MKDIRAT, AT_FDCWD, "l/made", 0755, 0);
+	runs_chain("a link that is made", (int[]){ 0, number, 0 });
+	close(number);
+	add(&ring, OP_UNLINKAT, AT_FDCWD, "l", 0, 0);
+	add_open(&ring, "l/file", O_RDWR, 0);
+	runs_chain("a link that is gone", (int[]){ 0, -ENOENT });
+	make_link("d", "l");
+	add_two(OP_RENAMEAT, "l", "k");
+	add_open(&ring, "k/file", O_RDWR, 0);
+	runs_chain("a link that is moved", (int[]){ 0, number });
+	close(number);
+	add(&ring, OP_MKDIRAT, AT_FDCWD, "d/../new", 0755, 0);
+	add(&ring, OP_MKDIRAT, AT_FDCWD, "new/in", 0755, 0);
+	add_open(&ring, "new/in/file", O_RDWR | O_CREAT, 0);
+	runs_chain("a path with dots", (int[]){ 0, 0, number });
+	close(number);
+	add(&ring, SYMLINKAT, AT_FDCWD, "file", 0, (uint64_t)(uintptr_t) "e/m");
+	add(&ring, OP_UNLINKAT, AT_FDCWD, "e", 0, 0)->unlink_flags = AT_REMOVEDIR;
+	runs_chain("a directory that is not empty", (int[]){ 0, -ENOTEMPTY });
+	reads_name("new/in/file", 0);
+}
+
+/* The next number below a limit of those that a seed gives. */
+static uint64_t drawn;
+static unsigned draw(unsigned limit)
+{
+	drawn = drawn * 6364136223846793005u + 1442695040888963407u;
+	return (unsigned)(drawn >> 33) % limit;
+}
+
+/* A name: the first four are of the root. */
+static const char *draw_name(unsigned count)
+{
+	static const char *const names[] = { "a",   "b", "s",	"t",   "d",   "d/x",
+					     "d/s", "e", "e/y", "s/x", "t/y", "u" };
+
+	return names[draw(count)];
+}
+
+/* A file is made or cut, and written. */
+static void any_file(const char *name)
+{
+	int flags = O_RDWR | O_CREAT | (draw(2) ? O_TRUNC : 0);
+
+	if (draw(2)) {
+		int made = open(name, flags, 0644);
+		if (made >= 0 && (write(made, name, strlen(name)) < 0 || close(made)))
+			fail(name);
+		return;
+	}
+	add_open(&ring, name, flags | (draw(4) ? 0 : O_EXCL) | (draw(4) ? 0 : O_NOFOLLOW), 0);
+	int number = run_one(&ring);
+	add(&ring, OP_WRITE, number, name, (unsigned)strlen(name), 0);
+	run_one(&ring);
+	add(&ring, OP_CLOSE, number, NULL, 0, 0);
+	run_one(&ring);
+}
+
+/* A name is made or taken away by a call; the results are those of the file system. */
+static int any_call(const char *one, const char *other)
+{
+	switch (draw(6)) {
+	case 0:
+		return symlink(other, one);
+	case 1:
+		return unlink(one);
+	case 2:
+		return rmdir(one);
+	case 3:
+		return mkdir(one, 0755);
+	case 4:
+		return linkat(AT_FDCWD, one, AT_FDCWD, other, draw(2) ? AT_SYMLINK_FOLLOW : 0);
+	default:
+		return moves(true, one, other, draw(4) ? 0 : 1 + draw(2));
+	}
+}
+
+/* The same by an entry. */
+static int any_entry(const char *one, const char *other)
+{
+	switch (draw(6)) {
+	case 0:
+		add(&ring, SYMLINKAT, AT_FDCWD, other, 0, (uint64_t)(uintptr_t)one);
+		break;
+	case 1:
+		add(&ring, OP_UNLINKAT, AT_FDCWD, one, 0, 0)->unlink_flags =
+			draw(2) ? AT_REMOVEDIR : 0;
+		break;
+	case 2:
+		add(&ring, OP_MKDIRAT, AT_FDCWD, one, 0755, 0);
+		break;
+	case 3: /* (of two paths that are both wrong Linux tells the other one) */
+		add_two(OP_LINKAT, one, draw_name(4))->hardlink_flags = draw(2) ? 0x400 : 0;
+		break;
+	case 4:
+		add_open(&ring, one, O_RDONLY, 0);
+		close(run_one(&ring));
+		return 0;
+	default:
+		return moves(false, one, other, draw(4) ? 0 : 1 + draw(2));
+	}
+	return run_one(&ring);
+}
+
+static void any_links(void)
+{
+	int last = 0;
+
+	for (int round = 0; round < 80; round++) {
+		const char *one = draw_name(12), *other = draw_name(12);
+		unsigned which = draw(8);
+		if (which < 2)
+			any_file(one);
+		else
+			last = which < 5 ? any_call(one, other) : any_entry(one, other);
+	}
+	(void)last;
 }
 
 /* Files elsewhere: opened, written and closed, alone and beside files of the tree. */
@@ -531,6 +756,9 @@ static void written_away(void)
 static const struct mode modes[] = {
 	{ "through_a_link", through_a_link },
 	{ "links", links },
+	{ "over_links", over_links },
+	{ "links_in_chains", links_in_chains },
+	{ "any_links", any_links },
 	{ "elsewhere", elsewhere_opened },
 	{ "chosen_slots", chosen_slots },
 	{ "open_by_how", open_by_how },
@@ -560,8 +788,9 @@ int main(int count, char **words)
 	file = open("a", O_CREAT | O_RDWR, 0644);
 	if (file < 0 || write(file, bytes, BYTES) != BYTES)
 		fail("a");
-	if (count != 2 || !run_mode(modes, sizeof modes / sizeof *modes, words[1])) {
-		fputs("marks MODE\n", stderr);
+	drawn = count > 2 ? strtoull(words[2], NULL, 10) : 0;
+	if (count < 2 || !run_mode(modes, sizeof modes / sizeof *modes, words[1])) {
+		fputs("marks MODE [SEED]\n", stderr);
 		return 2;
 	}
 	add(&ring, OP_NOP, 0, NULL, 0, 0);
