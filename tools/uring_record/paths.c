@@ -292,8 +292,9 @@ bool starts_somewhere(pid_t process, int directory, const char *path)
 	return is_known;
 }
 
-/* A path of a call as a full path of this machine, without slashes at its end, in memory of its own,
- * or NULL. What ends in dots names a directory, which no call makes, moves or takes away so. */
+/* A path of a call as a full path of this machine, without slashes at its end, in memory of its
+ * own, or NULL. What ends in dots names a directory, which no call makes, moves or takes away so.
+ */
 static char *stripped_path(pid_t process, int directory, const char *path, bool *is_name)
 {
 	char *full = *path ? full_path(process, directory, path) : NULL;

@@ -414,8 +414,9 @@ static void held(void)
 
 	close(new_file("a", O_RDONLY));
 	int number = lowest_number();
-	if (mkfifo("pipe", 0644) || pthread_create(&thread, NULL, read_pipe, NULL))
+	if (mkfifo("pipe", 0644))
 		fail("pipe");
+	pthread_create(&thread, NULL, read_pipe, NULL);
 	wait_until_held(number);
 	opens_beside(number);
 	close(open("pipe", O_WRONLY));
