@@ -27,10 +27,10 @@ from examples import VERSION_3
 from harness import BUILT, EXAMPLES, TOP, Answer, Job, Outcome, Program, Timed, difference, first, guarded, shown, skipped
 from model import AT_POSITION
 from play_drawing import UNCOUNTED, Played, PlayedRecords
-from player import MODES, UNTRIED, Player, against
+from player import MODES, UNTRIED, Player, against, answers
 from traces import AT_FDCWD, FADVISE, FALLOCATE, FIXED_FILE, FSYNC, FTRUNCATE, HARDLINK, LINK, LINKAT, MKDIRAT, NOP, OPENAT, READ, RENAMEAT, SKIP
 from traces import SYNC_FILE_RANGE, UNLINKAT
-from traces import description, directory, enter, entry, file, head, ring, sums_option, two_paths
+from traces import description, directory, enter, entry, file, head, ring, two_paths
 
 # Drawn traces in the test command, each played in each mode in one of the directories; how many of them with bytes changed; and how many of both of
 # version 3.
@@ -83,7 +83,7 @@ def limits_of_version_3(player: Player, program: Program) -> List[Outcome]:
 
 def played(player: Player, program: Program, label: str, trace: bytes, places: List[str]) -> List[Outcome]:
     """One trace in each mode in some directories; one that the replayer refuses the player refuses by the same line."""
-    report = program.run(["serial", sums_option(trace)], trace)
+    report = answers(program, trace)
     if report.status:
         return [Outcome("play/{}: refused".format(label), refusal(player, trace, report.errors))]
     outcomes, allowed = [], set(listed_words())
@@ -115,7 +115,7 @@ def drawn(player: Player, program: Program, share: Share, kind: Type[drawing.Dra
     faults, untried = [], []
     for seed in seeds:
         trace = kind(seed).trace()
-        report = program.run(["serial", sums_option(trace)], trace).output
+        report = answers(program, trace).output
         place = player.directories()[seed % len(player.directories())]
         for mode in MODES:
             found = player.compared(program, trace, report, mode, place)
@@ -147,7 +147,7 @@ def changed(player: Player, program: Program, what: str, made: Callable[[int], b
 def notices(player: Player, program: Program) -> List[Outcome]:
     """A wrong expectation of each kind is told as a difference."""
     trace, outcomes = read(TRACE), []
-    report = program.run(["serial", sums_option(trace)], trace).output
+    report = answers(program, trace).output
     for old, new in ((b"res=4", b"res=3"), (b"posted", b"silent"), (b"data=32", b"data=33"), (b"size=10", b"size=9"), (b"pos=0", b"pos=1"),
                      (b"node=1 size", b"node=2 size"), (b"sum=8", b"sum=9"), (b"file /a", b"file /b")):
         wrong = report.replace(old, new, 1)
@@ -166,7 +166,7 @@ def made_up_for(player: Player, program: Program) -> List[Outcome]:
                entry(SYNC_FILE_RANGE, FIXED_FILE), entry(FADVISE, FIXED_FILE), entry(READ, FIXED_FILE, length=20)]
     front = [record_traces.head(1, 1), record_traces.file_of(b"/a", 10, b"0123456789"), description(1), record_traces.ring_of([1], [])]
     trace = b"".join([*front, record_traces.enter(0, [record_traces.stored(it) for it in entries]), record_traces.END])
-    report = program.run(["serial", sums_option(trace)], trace).output
+    report = answers(program, trace).output
     outcomes = []
     lacked = (*UNCOUNTED, FADVISE)
     for each in (lacked, *([it] for it in lacked)):
@@ -187,7 +187,7 @@ def long_chains(player: Player, program: Program) -> List[Outcome]:
         timed = []
         for count in (1_000, 32_000):
             trace = world + enter(0, [entry(READ, FIXED_FILE | flags, length=4) for _ in range(count)])
-            report = program.run(["serial", sums_option(trace)], trace).output
+            report = answers(program, trace).output
             found = against(program, report, player.steered(trace, report, words))
             outcomes.append(Outcome("the player: a chain of {}{}".format(count, label), found.fault, found.untried))
             expected = os.path.join(player.folder.name, "chain-{}{}".format(count, len(label)))
@@ -209,7 +209,7 @@ def silences(player: Player, program: Program) -> List[Outcome]:
     outcomes = []
     for label, chain, slots in (("doomed", doomed, ()), ("slow", slow, (1,))):
         trace = head(1, 1, 1, 1) + file(b"/a", 1 << 40, b"0123") + description(1) + ring(slots) + enter(0, chain)
-        report = program.run(["serial", sums_option(trace)], trace).output
+        report = answers(program, trace).output
         outcomes.append(Outcome("the player: a {} chain".format(label), against(program, report, player.steered(trace, report, ["--patience", "100", "--no-read-sums"])).fault))
     return outcomes
 
@@ -232,7 +232,7 @@ def stuck(player: Player, program: Program) -> List[Outcome]:
 def on_less(player: Player, program: Program) -> List[Outcome]:
     """Systems that give less: no ring, an older kernel, no root of its own; and one without FTRUNCATE or without a look at slots."""
     trace, outcomes = read(TRACE), []
-    report = program.run(["serial", sums_option(trace)], trace).output
+    report = answers(program, trace).output
     for error, wanted in ((1, UNTRIED), (22, UNTRIED), (38, UNTRIED), (12, UNTRIED), (23, 3)):
         got = player.with_less(rings=error).play([TRACE])
         outcomes.append(Outcome("the player: no ring, by error {}".format(error), None if got.status == wanted and not got.output else shown(got)))
@@ -381,7 +381,7 @@ def statuses(player: Player) -> List[Outcome]:
 def prepared(player: Player, program: Program) -> List[Outcome]:
     """A tree that is laid out first is played in where it lies, and stays; a link in it is refused."""
     trace, name = read(TRACE), "the player: --prepare and --prepared"
-    report = program.run(["serial", sums_option(trace)], trace).output
+    report = answers(program, trace).output
     made = player.play(["--prepare"], trace)
     folder = made.output.decode().strip()
     if made.status or not os.path.isdir(folder):
@@ -484,7 +484,7 @@ def more() -> int:
             sums, outside, faults = Counter(), Counter(), []
             for seed in range(given.drawn):
                 trace = Played(seed).trace()
-                found = player.compared(program, trace, program.run(["serial", sums_option(trace)], trace).output, mode, place)
+                found = player.compared(program, trace, answers(program, trace).output, mode, place)
                 sums.update({section: counts[0] for section, counts in found.counts.items()})
                 outside.update(found.words)
                 faults += ["drawn {}: {}".format(seed, found.fault)] if found.fault else []

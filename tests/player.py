@@ -9,6 +9,7 @@ from typing import Dict, List, NamedTuple, Optional, Sequence
 
 from harness import TOP, Answer, Program, shown
 from shims import Shim
+from traces import sums_option
 
 SOURCES, SHARED = (os.path.join(TOP, "tools", it) for it in ("uring_play", "shared"))
 UNTRIED, SECONDS = 77, 120
@@ -109,6 +110,14 @@ class Player:
 def bytes_read(report: bytes) -> int:
     """How many bytes the reads of more than 32 bytes brought."""
     return sum(int(it) for it in re.findall(rb" res=(\d+) (?:posted|silent) data=[0-9a-f]*\+", report))
+
+
+def answers(program: Program, trace: bytes) -> Answer:
+    """The report of a trace with sums: with those of reads where these do not take long."""
+    plain = program.run(["serial", "--sums"], trace)
+    if plain.status or bytes_read(plain.output) > MOST_SUMMED or sums_option(trace) == "--sums":
+        return plain
+    return program.run(["serial", sums_option(trace)], trace)
 
 
 def against(program: Program, report: bytes, got: Answer) -> Compared:
