@@ -13,6 +13,7 @@ from typing import Dict, List, NamedTuple, Optional, Sequence
 
 import recorder
 from harness import TOP, Answer, Job, Outcome, Program, first, say, shown, skipped, spoken
+from mounted import Passthrough
 from recorded import SHARED, SOURCES, UNTRIED, Tools, lacking_in_system, ran_in, read_file
 
 # Each mode of marks.c, or of ordinary.c: in version 2 why entries are outside, in version 3 why they are given or outside, and how many lines of entries
@@ -261,6 +262,55 @@ def all_sums(tools: Tools) -> Outcome:
     return Outcome("marks: --all-sums", first(faults))
 
 
+# --- Sums of reads --------------------------------------------------------------------------------------------------
+
+CONTENT = bytes((7 * at + at // 256) % 251 for at in range(10_000)) + bytes(10_000)
+# By user_data the bytes of each read of tools/uring_record/test/reads.c that has a sum: those of few bytes, of vectors that share memory and of more
+# than may wait to be summed have none.
+SUMMED: Dict[int, bytes] = {1: CONTENT[10:110], 3: CONTENT[200:245], 4: CONTENT[300:360], 6: CONTENT[500:564], 7: CONTENT[600:603],
+                            **{8 + at: CONTENT[1_000 * at:1_000 * at + 1_000] for at in range(8)}, 17: CONTENT[8_000:13_000]}
+UNSUMMED = (b"a read whose vectors share memory: its bytes are not told", b"a read of more bytes than can wait to be summed: they have no sum")
+WITH_SUMS = (([], True), (["--wait"], True), (VERSION_2, True), (["--no-read-sums"], False), (["--no-data"], False))
+
+
+def read_sums(tools: Tools, program: Program, words: Sequence[str], has_sums: bool) -> Outcome:
+    """One recording: the sums are those of the bytes, and nothing differs from its replay."""
+    label = "marks: sums of reads, {}".format(spoken(words))
+    made = record(tools, program, "reads" + "".join(words), words, [tools.file("reads")])
+    if made.got.status == UNTRIED:
+        return Outcome(label, skipped=shown(made.got))
+    if made.got.status or made.compared.status:
+        return Outcome(label, "{}; diff: {}".format(shown(made.got), shown(made.compared)))
+    faults = other_sums(made.kernel, SUMMED if has_sums else {})
+    faults += ["it lacks the note {!r}".format(it) for it in UNSUMMED if has_sums and it not in made.got.errors]
+    return Outcome(label, first(faults))
+
+
+def other_sums(kernel: str, brought: Dict[int, bytes]) -> List[str]:
+    """What of the sums of results are not those of these bytes, which stand by user_data."""
+    found = {int(user): text for user, text in re.findall(r"^\d+ (?:ring=\d+ )?user=(\d+) .* data-sum=([0-9a-f]{64}) ", kernel, re.M)}
+    wanted = {user: hashlib.sha256(it).hexdigest() for user, it in brought.items()}
+    return ["entry {}: {}, wanted {}".format(it, found.get(it), wanted.get(it)) for it in sorted({*found, *wanted}) if found.get(it) != wanted.get(it)]
+
+
+def wrong_reads(tools: Tools, program: Program) -> Outcome:
+    """Recorded through a file system that changes the last byte of each read of 33 to 4,096 bytes: the sums are those of the wrong bytes, and a report
+    with sums of reads differs in these lines alone."""
+    label, path = "marks: sums of reads, of wrong bytes", tools.file("wrong")
+    with Passthrough(["corrupt"]) as there:
+        if there.lacking:
+            return Outcome(label, skipped=there.lacking)
+        got = ran_in(there.mount, [tools.file("uring_record"), "-o", path + ".trace", "-k", path + ".kernel", "--", tools.file("reads")])
+    if got.status:
+        return Outcome(label, shown(got))
+    kernel, report = read_file(path + ".kernel"), program.run(["serial", "--sums"], path + ".trace").output
+    wrong = {user: it[:-1] + bytes([it[-1] ^ 1]) for user, it in SUMMED.items() if 32 < len(it) <= 4_096}
+    compared = program.run(["diff"], report + kernel)
+    differing = len(wrong) if b" data-sum=" in report else 0
+    is_well = re.search(rb"^entries \d+ equal, %d different" % differing, compared.output, re.M) and re.search(rb"^tree \d+ equal, 0 different", compared.output, re.M)
+    return Outcome(label, first(other_sums(kernel.decode(), {**SUMMED, **wrong})) or (None if is_well else shown(compared)))
+
+
 # --- Cost -----------------------------------------------------------------------------------------------------------
 
 def submitted(tools: Tools, words: Sequence[str], before: Sequence[str]) -> Dict[str, float]:
@@ -311,7 +361,7 @@ def cost(tools: Tools) -> List[Outcome]:
 
 def marked(programs: List[Program]) -> List[Outcome]:
     tools = Tools()
-    lacking = tools.lacking() or build(tools, ("marks", "ordinary", "stops", "submitter"))
+    lacking = tools.lacking() or build(tools, ("marks", "ordinary", "reads", "stops", "submitter"))
     if lacking:
         return skipped("the recorder's marks", lacking)
     outcomes = [all_sums(tools)]
@@ -322,6 +372,7 @@ def marked(programs: List[Program]) -> List[Outcome]:
     for words in OPTIONS:
         outcomes += [mode(tools, program, it, words) for it in MODES]
     outcomes += [drawn(tools, program, it) for it in SEEDS]
+    outcomes += [*(read_sums(tools, program, *it) for it in WITH_SUMS), wrong_reads(tools, program)]
     return [*outcomes, *shell_and_git(tools, program), *facts(tools), seldom_told(tools), plot(tools), *cost(tools)]
 
 

@@ -100,8 +100,8 @@ void read_sides_ahead(const struct record *record, pid_t thread)
 static void add_read(struct ranges *ranges, const struct flight *flight)
 {
 	if (flight->vector_count)
-		add_range(ranges, address_of(&flight->vectors[0]),
-			  min64(flight->vectors[0].iov_len, DATA_SHOWN));
+		add_range(ranges, address_of(&vectors_of(flight)[0]),
+			  min64(vectors_of(flight)[0].iov_len, DATA_SHOWN));
 }
 
 void read_completions_ahead(const struct ring *ring, pid_t thread)

@@ -26,6 +26,7 @@ struct options {
 	u64 limit;	     /* the most bytes that the trace may have, 0 for its format's */
 	bool all_sums;	     /* the results have tree sums of large files */
 	bool no_data;	     /* neither the trace nor the results have a byte of data */
+	bool no_read_sums;   /* the results have no sums of what reads brought */
 	bool verbose;	     /* notes are said as they come up */
 };
 extern struct options options;

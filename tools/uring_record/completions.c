@@ -7,9 +7,11 @@
 #include "others.h"
 #include "positions.h"
 #include "start.h"
+#include "sums.h"
 #include "table.h"
 
 #include <errno.h>
+#include <stdlib.h>
 #include <string.h>
 #include <sys/stat.h>
 
@@ -33,6 +35,46 @@ static bool is_there_still(struct flight *flight, pid_t thread, bool is_fresh)
 	return false;
 }
 
+static int by_address(const void *one, const void *other)
+{
+	u64 a = address_of(one), b = address_of(other);
+
+	return (a > b) - (a < b);
+}
+
+/* Whether two vectors of a read share memory: then not all that it brought is there. */
+static bool shares_memory(const struct flight *flight)
+{
+	u32 count = flight->vector_count;
+	u64 end = 0;
+	bool is_shared = false;
+
+	if (count < 2)
+		return false;
+	struct iovec *sorted = allocate(count * sizeof *sorted);
+	memcpy(sorted, vectors_of(flight), count * sizeof *sorted);
+	qsort(sorted, count, sizeof *sorted, by_address);
+	for (u32 at = 0; at < count; at++) {
+		u64 from = address_of(&sorted[at]), to = from + sorted[at].iov_len;
+		is_shared |= overlap(0, end, from, to);
+		end = to > end ? to : end;
+	}
+	free(sorted);
+	return is_shared;
+}
+
+/* Has what was read summed, for the results. */
+static void sum_read(struct flight *flight, i32 result)
+{
+	struct entry *entry = flight->entry;
+
+	if (options.no_read_sums || entry->sum || is_told(entry))
+		return;
+	entry->sum = begin_sum(vectors_of(flight), flight->vector_count, (u64)result);
+	if (!entry->sum)
+		note("a read of more bytes than can wait to be summed: they have no sum", entry);
+}
+
 /* Takes the first bytes of what was read, for the results. */
 static void read_came(struct flight *flight, pid_t thread, i32 result, bool is_fresh)
 {
@@ -41,8 +83,14 @@ static void read_came(struct flight *flight, pid_t thread, i32 result, bool is_f
 
 	if (!is_there_still(flight, thread, is_fresh))
 		return;
+	if (shares_memory(flight)) {
+		note("a read whose vectors share memory: its bytes are not told", entry);
+		return;
+	}
 	entry->data_length = (u64)result;
-	fetch_gathered(thread, flight->vectors, flight->vector_count, entry->data, shown);
+	fetch_gathered(thread, vectors_of(flight), flight->vector_count, entry->data, shown);
+	if (result > DATA_SHOWN)
+		sum_read(flight, result);
 }
 
 /* What a STATX told: a kind in a byte, and the size of a file in eight. */
@@ -61,8 +109,8 @@ static void told_came(struct flight *flight, pid_t thread, bool is_fresh)
 	memcpy(entry->data + 1, &size, sizeof size);
 }
 
-/* What a fixed read puts into its buffer is not known here. */
-static void fixed_read_came(struct flight *flight, i32 result)
+/* What a fixed read puts into its buffer is not known to the replay of writes from there. */
+static void fixed_read_came(struct flight *flight, pid_t thread, i32 result, bool is_fresh)
 {
 	if (flight->buffer == NO_BUFFER)
 		return;
@@ -75,6 +123,8 @@ static void fixed_read_came(struct flight *flight, i32 result)
 		buffer->unknown = allocate(buffer->length);
 	}
 	memset(buffer->unknown + from, 1, (size_t)result);
+	if (is_there_still(flight, thread, is_fresh))
+		sum_read(flight, result);
 }
 
 /* How many bytes of lengths stand before those of a write. */
@@ -89,9 +139,9 @@ static void take_again(struct flight *flight, pid_t thread)
 	struct entry *entry = flight->entry;
 	u32 lengths = lengths_of(entry);
 
-	if (flight->has_all_vectors && !is_fixed(entry->opcode) && lengths < entry->side_length)
-		fetch_gathered(thread, flight->vectors, flight->vector_count, entry->side + lengths,
-			       entry->side_length - lengths);
+	if (!is_fixed(entry->opcode) && lengths < entry->side_length)
+		fetch_gathered(thread, vectors_of(flight), flight->vector_count,
+			       entry->side + lengths, entry->side_length - lengths);
 }
 
 /* Whether a write put all its bytes where they still are: its place is known, and nothing else has
@@ -264,7 +314,7 @@ static void completed(struct flight *flight, pid_t thread, i32 result, bool is_f
 	if (!result && opcode == OP_STATX)
 		told_came(flight, thread, is_fresh);
 	if (result > 0 && opcode == OP_READ_FIXED)
-		fixed_read_came(flight, result);
+		fixed_read_came(flight, thread, result, is_fresh);
 	if (flight->meets_maker)
 		doubt_touched(flight, OUTSIDE_ORDER);
 	if (flight->meets_name)
@@ -363,7 +413,7 @@ static u32 doubted_tail(struct ring *ring, u32 tail)
 	return tail;
 }
 
-void reap(struct ring *ring, pid_t thread, bool is_fresh)
+static void reap_new(struct ring *ring, pid_t thread, bool is_fresh)
 {
 	u32 tail, mask = ring->cq_entries - 1;
 	unsigned shift = ring->flags & IORING_SETUP_CQE32 ? 5 : 4;
@@ -384,6 +434,12 @@ void reap(struct ring *ring, pid_t thread, bool is_fresh)
 			return;
 		completion_came(ring, thread, &cqe, is_fresh);
 	}
+}
+
+void reap(struct ring *ring, pid_t thread, bool is_fresh)
+{
+	reap_new(ring, thread, is_fresh);
+	take_summed(thread);
 }
 
 void reap_all(pid_t process, pid_t thread)

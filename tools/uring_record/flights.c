@@ -374,6 +374,7 @@ void land(struct flight *flight)
 		free(flight->names[at]);
 		free(flight->unresolved[at]);
 	}
+	free(flight->more_vectors);
 	let_go_of_copies(flight);
 	quiet_count -= is_quiet(flight);
 	ring->in_flight--;
@@ -567,8 +568,8 @@ static void touch_vectors(struct flight *flight, bool writes)
 	u64 from = UINT64_MAX, to = 0;
 
 	for (u32 at = 0; at < flight->vector_count; at++) {
-		u64 start = address_of(&flight->vectors[at]),
-		    end = start + flight->vectors[at].iov_len;
+		const struct iovec *it = &vectors_of(flight)[at];
+		u64 start = address_of(it), end = start + it->iov_len;
 		if (flight->vector_count <= 4)
 			touch_memory(flight, start, end, writes);
 		from = start < from ? start : from;

@@ -53,9 +53,9 @@ struct flight {
 	u32 buffer;		       /* the buffer of the trace, of fixed forms */
 
 	u32 touch_count, vector_count; /* (of the last members) */
+	struct iovec *more_vectors;    /* all of them, where they are more than are kept here */
 	struct span *spans;	       /* where it is looked for */
-	bool has_all_vectors;
-	u64 asked; /* how many bytes it asks for */
+	u64 asked;		       /* how many bytes it asks for */
 
 	struct opened *used;	/* the description that it works on or opens */
 	struct opened *changes; /* a file that an opcode changes which is not served */
@@ -85,6 +85,12 @@ struct flight {
 	struct iovec
 		vectors[MOST_KEPT_VECTORS]; /* where a read puts its bytes, a write takes them */
 };
+
+/* All vectors of a flight. */
+static inline const struct iovec *vectors_of(const struct flight *flight)
+{
+	return flight->more_vectors ? flight->more_vectors : flight->vectors;
+}
 
 /* A flight that is in no list yet, and its end in each way. */
 struct flight *new_flight(struct ring *ring, struct entry *entry, pid_t process);

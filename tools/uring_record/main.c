@@ -50,6 +50,7 @@ static const char help[] =
 	"versions\n"
 	"                       1 and 2): there the recording ends, and the command runs on\n"
 	"      --all-sums       the results have tree sums of files over 16 MiB\n"
+	"      --no-read-sums   the results have no sums of what reads brought\n"
 	"  -v, --verbose        what is not told faithfully is said as it comes up\n"
 	"  -h, --help           this text\n"
 	"  -V, --version        the versions of the format that it writes\n"
@@ -69,7 +70,8 @@ static const struct option long_options[] = {
 	{ "limit", required_argument, NULL, 'l' },  { "verbose", no_argument, NULL, 'v' },
 	{ "help", no_argument, NULL, 'h' },	    { "version", no_argument, NULL, 'V' },
 	{ "all-sums", no_argument, NULL, 's' },	    { "no-data", no_argument, NULL, 'N' },
-	{ "format", required_argument, NULL, 'f' }, { NULL, 0, NULL, 0 },
+	{ "format", required_argument, NULL, 'f' }, { "no-read-sums", no_argument, NULL, 'S' },
+	{ NULL, 0, NULL, 0 },
 };
 
 /* A trace may not be limited to less: its descriptions, table and rings are always there. */
@@ -136,6 +138,8 @@ static bool *switch_of(int letter)
 		return &options.all_sums;
 	case 'N':
 		return &options.no_data;
+	case 'S':
+		return &options.no_read_sums;
 	case 'v':
 		return &options.verbose;
 	default:

@@ -4,6 +4,7 @@
 #include "paths.h"
 #include "rings.h"
 #include "sha256.h"
+#include "sums.h"
 #include "tree_sum.h"
 
 #include <dirent.h>
@@ -255,6 +256,8 @@ static void write_entry(const struct record *record, const struct entry *entry)
 		if (entry->data_length > DATA_SHOWN)
 			fputc('+', file);
 	}
+	if (entry->sum && text_of_sum(entry->sum))
+		fprintf(file, " data-sum=%s", text_of_sum(entry->sum));
 	bool is_told_as_given = is_given(entry) && !is_ambiguous(entry);
 	if (is_told_as_given)
 		fputs(" given=1", file);

@@ -18,13 +18,16 @@ static void unread(struct entry *entry, const char *what)
 	put_aside(entry, OUTSIDE_MEMORY);
 }
 
-/* Keeps the first vectors of an entry while it is in flight. */
+/* Keeps the vectors of an entry while it is in flight. */
 static void keep_vectors(struct flight *flight, const struct iovec *vectors, u32 count)
 {
-	flight->has_all_vectors = count <= MOST_KEPT_VECTORS;
-	flight->vector_count = count < MOST_KEPT_VECTORS ? count : MOST_KEPT_VECTORS;
-	if (flight->vector_count)
-		memcpy(flight->vectors, vectors, flight->vector_count * sizeof *vectors);
+	struct iovec *kept = flight->vectors;
+
+	if (count > MOST_KEPT_VECTORS)
+		kept = flight->more_vectors = allocate(count * sizeof *vectors);
+	flight->vector_count = count;
+	if (count)
+		memcpy(kept, vectors, count * sizeof *vectors);
 }
 
 /* The bytes that vectors ask for together, 0 where that is no number of bytes. */

@@ -6,6 +6,7 @@
 #include "output.h"
 #include "start.h"
 #include "submissions.h"
+#include "sums.h"
 
 #include <stdlib.h>
 #include <string.h>
@@ -202,7 +203,8 @@ static bool is_final(struct record *record)
 	const struct entry *next = &record->entries[record->final];
 
 	for (; record->final < record->count; record->final++, next++) {
-		if (!(next->is_landed || next->is_given_up) || next->is_alike)
+		if (!(next->is_landed || next->is_given_up) || next->is_alike ||
+		    !is_made(next->sum))
 			break;
 	}
 	return record->final == record->count;
@@ -278,6 +280,15 @@ static void leave_unended(const struct record *record, u32 first)
 	leave_flights_of(record);
 }
 
+/* Waits for the sums of a record. */
+static void make_sums_of(const struct record *record)
+{
+	for (u32 at = 0; at < record->count; at++) {
+		if (record->entries[at].sum)
+			text_of_sum(record->entries[at].sum);
+	}
+}
+
 /* Whether the results of a record are written now. Where many are kept behind it, what is in flight
  * is told as if it never ended. */
 static bool is_told_now(struct record *record)
@@ -287,6 +298,7 @@ static bool is_told_now(struct record *record)
 	if (!is_crowded())
 		return false;
 	give_up_alike();
+	make_sums_of(record);
 	if (!is_final(record))
 		leave_unended(record, record->final);
 	return true;

@@ -2,6 +2,7 @@
 #include "begun.h"
 #include "notes.h"
 #include "rings.h"
+#include "sums.h"
 
 #include <fcntl.h>
 #include <stdio.h>
@@ -221,8 +222,10 @@ u32 places_of(const struct record *record)
 
 void free_record(struct record *record)
 {
-	for (u32 at = 0; at < record->room; at++)
+	for (u32 at = 0; at < record->room; at++) {
 		free(record->entries[at].side);
+		free_sum(record->entries[at].sum);
+	}
 	free(record->entries);
 	free(record->bytes);
 	free(record);

@@ -110,6 +110,7 @@ struct entry {
 	u64 submitted, completed; /* nanoseconds from the start of the trace */
 	u64 data_length;	  /* how many bytes it read into the program's memory */
 	u8 data[DATA_SHOWN];
+	struct read_sum *sum; /* of all bytes that it read, where it is told */
 	u64 place;
 	u32 chosen; /* of an OPENAT whose slot the kernel chose: the slot, from 1 */
 	const struct entry *told_by; /* of an ordinary call that ran: the entry that it became */
