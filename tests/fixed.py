@@ -4,12 +4,13 @@ import os
 import re
 from functools import partial
 from types import ModuleType
-from typing import Any, Callable, Dict, Iterator, List, NamedTuple, Tuple
+from typing import Any, Callable, Dict, Iterator, List, NamedTuple, Optional, Tuple
 
 import diffs
 import making
 import recorded
 import reports
+import text
 from harness import EXAMPLES, Answer, refused, reports_refused
 
 Readers = Dict[str, ModuleType]
@@ -60,8 +61,8 @@ def depends(trace: bytes, has_graph: bool, readers: Readers) -> bytes:
     return (model.graph if has_graph else model.depends)(trace)
 
 
-def shown(trace: bytes, readers: Readers) -> bytes:
-    return readers["model_text"].show(trace)
+def shown(trace: bytes, has_places: bool, most: Optional[int], readers: Readers) -> bytes:
+    return readers["model_text"].show(trace, has_places, most)
 
 
 def made(text: bytes, readers: Readers) -> Answer:
@@ -111,7 +112,7 @@ def of_example(path: str, endings: List[str]) -> Iterator[Fixed]:
         (".refused", lambda it: checked(it, trace).errors), (".check", lambda it: checked(it, trace).output), (".lines", partial(lines, trace)),
         (".report", partial(report, trace, False)), (".sums", lambda it: it["model"].report(trace)), (".waits", partial(rounds, trace, False)),
         (".dot", partial(rounds, trace, True)), (".depends", partial(depends, trace, False)), (".depends.dot", partial(depends, trace, True)),
-        (".text", partial(shown, trace)),
+        (".text", lambda it: it["model_text"].show(trace)),
     )
     yield from (Fixed(name + it, give, read_file(path + it)) for it, give in wholes if it in endings)
     if ".text" in endings:
@@ -135,11 +136,14 @@ def of_examples() -> Iterator[Fixed]:
 
 
 def of_texts() -> Iterator[Fixed]:
-    """Mistakes in texts, and texts as people write them."""
-    for text, told in making.MISTAKES:
-        yield Fixed("the mistake {!r}".format(text[-60:]), partial(made, text.encode()), Answer(1, b"", "text refused: {}\n".format(told).encode()))
-    for text, other in making.by_hand():
-        yield Fixed("the text {!r}".format(other[-60:]), partial(are_alike, text.encode(), other.encode()), True)
+    """Texts with places and of a part, mistakes in texts, and texts as people write them."""
+    for name, has_places, most, wanted in text.by_hand():
+        label = "{}.text {}".format(name, "with places" if has_places else "of {} bytes".format(most))
+        yield Fixed(label, partial(shown, read_file(os.path.join(EXAMPLES, name + ".trace")), has_places, most), wanted)
+    for mistake, told in making.MISTAKES:
+        yield Fixed("the mistake {!r}".format(mistake[-60:]), partial(made, mistake.encode()), Answer(1, b"", "text refused: {}\n".format(told).encode()))
+    for one, other in making.by_hand():
+        yield Fixed("the text {!r}".format(other[-60:]), partial(are_alike, one.encode(), other.encode()), True)
 
 
 def of_streams() -> Iterator[Fixed]:

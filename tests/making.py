@@ -25,6 +25,23 @@ WORDS_OF_RECORDS = (b"at=4", b"at=18446744073709551615", b"zeros=3", b"queue=0",
                     b"open_flags=O_RDWR", b"\nset 0:1 taken", b"\nset fd:1 of=0:0", b"\nset 0:2 path=/a open_flags=O_RDWR pos=4", b"\nseek 0:0 pos=5")
 FRONT = "uring-trace 2\nfile /a \"abc\"\nopen 0 /a O_RDWR\ndescriptors 0 -\nring 0\n  slots 0 -*3\n  buffer 0 0x1000 16\n"
 FRONT_OF_RECORDS = FRONT.replace("trace 2", "trace 3")
+THREE = "uring-trace 3\n"
+NO_SLOTS, NO_NUMBER, TWICE = "expected a slot: a number, `-` or `-*COUNT`", "expected a number", "this stands here for the second time"
+OUT_OF_RANGE, NOT_THERE, ONE_MORE = "Limit: a number on this line is out of its range", "Reference: a number on this line names nothing above", "there is one more of these than a trace may have"
+UNKNOWN = "expected a flag, a field of this operation or a string"
+# A line up to a number in it, what is behind it, how many bits it may have, and what is told of the greatest number of so many.
+NUMBERS_OF_LINES: Tuple[Tuple[str, str, int, str], ...] = (
+    ("uring-trace 1\nfile /a size=", "", 64, "2:1: " + OUT_OF_RANGE), ("uring-trace 1\nfile /a\nopen 0 /a O_RDWR pos=", "", 64, "3:1: " + OUT_OF_RANGE),
+    ("uring-trace 1\nfile /a\nopen 0 @", " O_RDWR", 32, "3:1: " + NOT_THERE), ("uring-trace 1\nring 0\n  buffer 0 0x1000 ", "", 32, "3:3: " + OUT_OF_RANGE),
+    ("uring-trace 1\nring 0\n  buffer 0 ", " 1", 64, "3:3: " + OUT_OF_RANGE), (FRONT + "fill ", ' buffer=0 "a"', 8, "8:1: " + NOT_THERE),
+    (FRONT + "fill 0 buffer=", ' "a"', 16, "8:1: " + NOT_THERE), (FRONT + "fill 0 buffer=0 at=", ' "a"', 32, "8:1: " + NOT_THERE), (FRONT + "enter ", "", 8, "8:1: " + NOT_THERE),
+    (THREE + "descriptors ", "", 32, "2:1: " + NOT_THERE), (THREE + "file /a at=", ' "a"', 64, "2:1: " + OUT_OF_RANGE), (THREE + "ring 0\n  slots fd:", "", 32, "3:3: " + NOT_THERE),
+    (THREE + "ring 0\n  slots ", ":0", 32, "3:3: " + NOT_THERE), (FRONT_OF_RECORDS + "ring 1\n  slots 0:", "", 32, "9:3: " + NOT_THERE), (THREE + "ring 0\n  slots ", "", 32, "3:3: " + NOT_THERE),
+    (FRONT_OF_RECORDS + "set fd:0 path=/a open_flags=", "", 32, "8:1: " + OUT_OF_RANGE), (FRONT_OF_RECORDS + "set fd:0 path=/a pos=", "", 64, "8:1: " + OUT_OF_RANGE),
+    (FRONT_OF_RECORDS + "seek fd:0 pos=", "", 64, "8:1: " + OUT_OF_RANGE), (FRONT_OF_RECORDS + "ring ", " ends", 32, "8:1: " + NOT_THERE), (FRONT_OF_RECORDS + "fill ", ' buffer=0 "a"', 32, "8:1: " + NOT_THERE),
+    (FRONT_OF_RECORDS + "fill 0 buffer=0 zeros=", "", 32, "8:1: " + NOT_THERE), (FRONT_OF_RECORDS + "enter ", "", 32, "8:1: " + NOT_THERE),
+    (FRONT_OF_RECORDS + "enter 0\n  WRITE zeros=", "", 32, "9:3: Side: the bytes of this entry do not fit it"),
+)
 
 # Mistakes: a text, and what is told of it.
 MISTAKES: Tuple[Tuple[str, str], ...] = (
@@ -68,6 +85,8 @@ MISTAKES: Tuple[Tuple[str, str], ...] = (
     (FRONT + "enter 0\n  READ FIXED_FILE IO_LINK FIXED_FILE\n", "9:27: the same flag stands here twice"),
     (FRONT + "enter 0\n  READ off=99999999999999999999\n", "9:12: expected a number of at most 64 bits"),
     (FRONT + "enter 0\n  READ len=4294967296\n", "9:12: expected a number of at most 32 bits"),
+    *((FRONT + "enter 0\n  READ {}={}\n".format(key, 1 << bits), "9:{}: expected a number of at most {} bits".format(9 + len(key), bits)) for key, bits in (
+        ("addr", 64), ("op_flags", 32), ("user_data", 64), ("buf_index", 16), ("file_index", 32), ("ioprio", 16), ("personality", 16), ("addr3", 64), ("pad", 64))),
     (FRONT + "enter 0\n  READ off=1k\n", "9:12: expected a number"),
     (FRONT + "enter 0\n  READ off=0X10\n", "9:12: expected a number"),
     (FRONT + "enter 0\n  READ rw_flags=RWF_SYNC|RWF_FAST\n", "9:17: expected a number or a flag of this field"),
@@ -129,6 +148,43 @@ MISTAKES: Tuple[Tuple[str, str], ...] = (
     (FRONT_OF_RECORDS + "seek 0:0 pos=\n", "8:14: expected a number"),
     (FRONT_OF_RECORDS + "seek 0:0 pos=9223372036854775808\n", "8:1: Limit: a number on this line is out of its range"),
     (FRONT + "set 0:0 nothing\n", "8:1: expected a line of a trace, or an operation"),
+    ("\nuring-trace 4\n", "2:13: expected `uring-trace 1`, `uring-trace 2` or `uring-trace 3`"),
+    ("uring-tracer 1\n", "1:1: expected `uring-trace 1`, `uring-trace 2` or `uring-trace 3`"),
+    ("uring-trace 1\ndir /\ndir /b\n", "2:1: Path: expected names of 1 to 255 bytes, one slash apart; an item begins with one"),
+    ("uring-trace 1\nfile # a\n", "2:6: expected a path"),
+    ("uring-trace 1\nopen 0 # a\n", "2:8: expected a path"),
+    ("uring-trace 1\nfile /a\nopen 0 /a O_RDWR|O_EXCL\n", "3:11: expected O_RDONLY, O_WRONLY or O_RDWR, perhaps with |O_APPEND"),
+    ("uring-trace 1\nring x\n", "2:6: expected the number 0, which is next"),
+    ("uring-trace 1\nring 0\n  slots\n", "3:8: " + NO_SLOTS),
+    (THREE + "ring 0\n  slots\n", "3:8: " + NO_SLOTS),
+    *(("uring-trace 1\nring 0\n  slots {}\n".format(it), "3:3: " + NOT_THERE) for it in ((1 << 31) - 1, 1 << 31, (1 << 32) - 2)),
+    *(("uring-trace 1\nring 0\n  slots {}\n".format(it), "3:9: expected a number of at most 32 bits") for it in ((1 << 32) - 1, 1 << 32)),
+    ("uring-trace 1\nring 0\n  slots -*x\n", "3:11: expected a count from 1 on"),
+    ("uring-trace 1\n" + "".join("ring {}\n".format(it) for it in range(65)), "66:1: " + ONE_MORE),
+    ("uring-trace 1\nring 0\n" + "".join("buffer {} 0 0\n".format(it) for it in range(1_025)), "1027:1: " + ONE_MORE),
+    (FRONT + "fill 0 buffer=0 \"a\"*\n", "8:21: expected a count from 1 on"),
+    (FRONT + "fill 0 buffer=0 \"a\"*18446744073709551616\n", "8:21: expected a number of at most 64 bits"),
+    (FRONT + "fill 0 buffer=0 \"a\"*18446744073709551615\n", "8:17: expected strings of at most 1073741824 bytes in all"),
+    (FRONT + "fill 0 buffer=0 \"a\"*1073741825\n", "8:17: expected strings of at most 1073741824 bytes in all"),
+    (FRONT + "fill 0 buffer=0 \"a\\", "8:19: expected one of \\n \\t \\r \\0 \\\" \\\\ \\xHH"),
+    (FRONT + "enter 0\n  READ off=-0\n", "9:12: " + NO_NUMBER),
+    (FRONT + "enter 0\n  READ off=08\n", "9:12: " + NO_NUMBER),
+    (FRONT + "enter 0\n  READ off=AT_FDCWD\n", "9:12: " + NO_NUMBER),
+    (FRONT + "enter 0\n  READ len=-2147483649\n", "9:12: expected a number of at most 32 bits"),
+    (FRONT + "enter 0\n  OP_256\n", "9:3: expected a line of a trace, or an operation"),
+    (FRONT + "enter 0\n  READ fd\n", "9:8: " + UNKNOWN),
+    (FRONT + "enter 0\n  OPENAT path\n", "9:10: " + UNKNOWN),
+    (FRONT + "enter 0\n  OPENAT path=/a path=/b\n", "9:18: " + TWICE),
+    (FRONT + "enter 0\n  READV [1] [2]\n", "9:13: " + TWICE),
+    (FRONT + "enter 0\n  READV [1] [2\n", "9:13: " + TWICE),
+    (FRONT + "enter 0\n  READV []\n", "9:10: " + NO_NUMBER),
+    (FRONT + "enter 0\n  READV [18446744073709551616]\n", "9:10: expected a number of at most 64 bits"),
+    (FRONT_OF_RECORDS + "set 0:0 path=\n", "8:14: expected a path"),
+    (FRONT_OF_RECORDS + "ring 1 queue=4294967296\n", "8:14: expected a number of at most 32 bits"),
+    (FRONT_OF_RECORDS + "enter 0\n  WRITE path=/x zeros=3\n", "9:3: Side: the bytes of this entry do not fit it"),
+    *((front + str(1 << bits) + behind + "\n", "{}:{}: expected a number of at most {} bits".format(front.count("\n") + 1, len(front) - front.rfind("\n"), bits))
+      for front, behind, bits, _ in NUMBERS_OF_LINES),
+    *((front + str((1 << bits) - 1) + behind + "\n", told) for front, behind, bits, told in NUMBERS_OF_LINES),
 )
 
 
@@ -207,7 +263,15 @@ def by_hand() -> Iterator[Tuple[str, str]]:
     yield front + "enter 0\n  READ fd=-1 len=3 rw_flags=RWF_HIPRI|RWF_SYNC\n", front + "enter 0\n  READ op_flags=5 fd=0xffffffff len=3\n"
     yield front + "enter 0\n  OPENAT path=/" + "n" * 70_000 + "\n", front + "enter 0\n  OPENAT dfd=0 path=/" + "\\x6e" * 70_000 + "\n"
     yield front + "enter 0\n  READV FIXED_FILE [4,8]\n", front + "enter 0\n  READV [4,8] len=2 FIXED_FILE\n"
+    yield front + "enter 0\n  READ len=2147483648\n", front.replace("open 0 /a", "open 0 @1") + "enter 0\n  READ len=-2147483648\n"
+    yield front + "enter 0\n  RENAMEAT old=/m new=\n  RENAMEAT old= new=/m\n", front + "enter 0\n  RENAMEAT old=/m\n  RENAMEAT new=/m\n"
+    longest = "/" + "n" * 65_534
+    yield front + "enter 0\n  RENAMEAT old={} new=/m\n".format(longest), front + "enter 0\n  RENAMEAT new=/m old={}\n".format(longest)
+    rings = "uring-trace 1\nring 0\n  slots -*1024\n" + "".join("ring {}\n".format(it) for it in range(1, 63)) + "ring 63\n"
+    yield rings + "".join("  buffer {} 0x0 0\n".format(it) for it in range(1_024)), rings.replace("-*1024", "-*1000 -*24") + "".join("buffer {} 0 0\n".format(it) for it in range(1_024))
     three = front.replace("trace 1", "trace 3")
+    yield three + "ring 1\n  slots -*1048576\n", three + "ring 1 queue=4294967295\n  slots -*1048575 -\n"
+    yield "uring-trace 3\nfile /a\n", "uring-trace 3\nfile /a size=0\n"
     yield three + "ring 0 ends\nring 1 queue=0\n", "\n# of version 3\n  uring-trace\t3 \\\n\n" + three[len("uring-trace 3\n") :] + "ring 0x0 ends # 0\nring 0x1 queue=00"
     yield three + "enter 0\n  WRITE FIXED_FILE zeros=512\n  WRITEV FIXED_FILE [4,8] zeros=28\n", three + "enter 0\nWRITE zeros=0x200 len=512 FIXED_FILE\nOP_2 zeros=034 [4,010] FIXED_FILE len=2\n"
     sets = "set 0:1 of=0:0\nset 0:2 path=/a open_flags=O_RDWR pos=9\nset 0:3 path=/a\nset 0:0 nothing\nseek 0:1 pos=3\n"

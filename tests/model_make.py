@@ -71,7 +71,7 @@ def place_of(text: bytes, at: int) -> Tuple[int, int]:
 
 
 def digits(word: Word, base: int, bits: int, why: str, at: int) -> int:
-    known = {2: b"01", 8: b"01234567", 10: b"0123456789", 16: b"0123456789abcdef"}[base]
+    known = {8: b"01234567", 10: b"0123456789", 16: b"0123456789abcdef"}[base]
     if not word.text or word.text.strip(known):
         raise Refused(at, why)
     number = int(word.text, base)
@@ -523,7 +523,7 @@ class RecordsReader(Reader):
         return DESCRIPTION, 0, number_of(word, 32)
 
     def records(self) -> int:
-        rings = count = 0
+        rings = 0
         while self.first().text in (b"ring", b"enter", b"fill", b"set", b"seek"):
             line = self.pass_word(self.first())
             if line.text == b"enter":
@@ -539,8 +539,7 @@ class RecordsReader(Reader):
             else:
                 self.ring(line, rings)
                 rings += 1
-            count += 1
-        return count
+        return rings
 
     def held(self, word: Word) -> Holder:
         """A slot or a descriptor."""

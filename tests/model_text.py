@@ -78,9 +78,9 @@ def flags_text(number: int, table: Table) -> str:
 def number_text(number: int, style: Style) -> str:
     signed = number - (1 << 32) if number >> 31 else number
     if style.how == "flags":
-        return flags_text(number, style.flags) or "0"
+        return flags_text(number, style.flags)
     if style.how == "octal":
-        return "0{:o}".format(number) if number else "0"
+        return "0{:o}".format(number)
     if style.how == "descriptor":
         return "AT_FDCWD" if signed == -100 else str(signed)
     if style.how == "offset" and number == (1 << 64) - 1:

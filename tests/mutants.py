@@ -1,11 +1,10 @@
 #!/usr/bin/env python3
 """Changes the second readers in one place at a time, and looks which fixed answer meets each change: tests/mutants.py [NAME ..]
 
-The second readers are the files model*.py beside this one. A change makes a constant one more or one less,
-turns a comparison or makes it strict, drops a test or puts it behind the next one, exchanges `and` and `or` or drops a side of them, takes a condition as
-the opposite, leaves out a row of a table, or gives a word of one another letter. A fixed answer (fixed.py) stands in examples/, or was worked out by hand
-in a test; what is drawn does not count. A change that no fixed answer meets stands in mutants.txt, with the reason why it changes nothing or with the test
-that meets it. The exit status is 1 where one is missing there, or stands there wrongly."""
+The second readers are the files model*.py beside this one, and changes.py has the changes: constants one more and one less, comparisons that are turned
+or strict, tests that are left out or come later, `and` for `or`, rows of tables that are left out. A fixed answer (fixed.py) stands in examples/, or was
+worked out by hand in a test; what is drawn does not count. A change that no fixed answer meets stands in mutants.txt, with the reason why it changes
+nothing or with the test that meets it. The exit status is 1 where one is missing there, or stands there wrongly."""
 import argparse
 import ast
 import os
@@ -26,7 +25,7 @@ if __name__ == "__main__":
 
 import fixed
 from changes import Change, changes_of, with_probes
-from days import DAY, day_of
+from days import day_of
 from fixed import Fixed, Readers
 from harness import TOP, Job, Outcome, Program, processors
 
@@ -50,7 +49,7 @@ SECONDS, TIMES, MEMORY = 1.0, 20, 3 << 30
 PLANTED = "planted"
 PLANT = "\n\ndef {}(count: int) -> bool:\n    return count < 7\n".format(PLANTED)
 # The readers of which each change is met, or stands in mutants.txt.
-READY = ("model", "model_records")
+READY = ("model", "model_records", "model_text", "model_diff")
 
 
 class Slow(BaseException):

@@ -10,6 +10,7 @@ from harness import EXAMPLES, Answer, Job, Outcome, Program, difference, first, 
 HEADING, SECOND_HEADING, END = b"uring-report 1\n", b"uring-report 2\n", b"end\n"
 NOTHING = "".join(it + " 0 equal, 0 different, 0 outside\n" for it in ("entries", "tree", "slots", "buffers"))
 ENTRY = b"0 user=7 res=4 posted\n"
+HELD = (b"slots\n", b"descriptor 3 desc=0\n", b"descriptor 4 desc=1\n", b"buffers\n")
 # How many facts a line may have, and how often a line is said beside one with so many, and the processor seconds of each, which are 0.1
 # to 0.5 on a busy machine. With each fact looked for among all others it was 55, and with each line compared anew over 100.
 FACTS, REPEATED, MOST_SECONDS = 200_000, 20_000, 1.5
@@ -31,6 +32,10 @@ def counted(entries: int = 0, tree: int = 0, large: int = 0) -> bytes:
     return (said + ("large {} not compared\n".format(large) if large else "")).encode()
 
 
+# A word more, of a name that both have.
+MORE = (report(b"0 res=4 posted\n"), report(b"0 res=4 posted silent\n"))
+
+
 def refusals() -> List[Tuple[str, bytes, Answer]]:
     """Texts that are not two reports, each with how it is refused."""
     well = report(ENTRY)
@@ -47,6 +52,10 @@ def refusals() -> List[Tuple[str, bytes, Answer]]:
          reports_refused("line 3 of the first says otherwise of file /a")),
         ("a long subject with odd bytes", well + report(b"file /\x1b\xff" + b"x" * 150 + b" a=1\n", b"file /\x1b\xff" + b"x" * 150 + b" a=2\n"),
          reports_refused("line 3 of the second says otherwise of file /??{}+".format("x" * 120))),
+        ("a subject with the last visible letter and its neighbours", well + report(b"file /\x1f~\x7f a=1\n", b"file /\x1f~\x7f a=2\n"),
+         reports_refused("line 3 of the second says otherwise of file /?~?")),
+        ("a subject of 128 bytes", well + report(b"x" * 128 + b" a=1\n", b"x" * 128 + b" a=2\n"), reports_refused("line 3 of the second says otherwise of " + "x" * 128)),
+        ("nothing behind an end without a line feed", well[:-1], reports_refused("the second does not begin with uring-report 1")),
         ("a later line before an end that lacks", report(ENTRY, b"0 user=8\n") + HEADING, reports_refused("the second has no end")),
     ]
 
@@ -89,12 +98,25 @@ def comparisons() -> List[Tuple[str, bytes, Answer]]:
         ("a large file with its sum on one side", report(b"tree\n", large + b"\n") + report(b"tree\n", with_sum), Answer(0, counted(tree=1, large=1), b"")),
         ("a large file with its sum", report(b"tree\n", with_sum) * 2, Answer(0, counted(tree=1), b"")),
         ("a large file with another sum", report(b"tree\n", with_sum) + report(b"tree\n", other_sum),
-         Answer(4, b"- " + with_sum + b"+ " + other_sum + counted().replace(b"tree 0 equal, 0", b"tree 0 equal, 1"), b"")),
+         Answer(4, b"- " + with_sum + b"+ " + other_sum + one_different("tree"), b"")),
         ("places of version 2, the greatest one too", by_places(*places) * 2, Answer(0, counted(entries=4), b"")),
         ("places of version 1 in any order", report(*places[::-1]) + report(*places), Answer(0, counted(entries=4), b"")),
+        ("headings and empty lines on one side", report(b"ring 0\n", ENTRY, b"\n", b"ring 1\n", b"\n") + report(ENTRY), Answer(0, counted(entries=1), b"")),
+        ("a tree on the first side alone", report(ENTRY, b"tree\n", b"dir /d\n") + report(ENTRY), Answer(0, counted(entries=1), b"")),
+        ("a tree on the second side alone", report(ENTRY) + report(ENTRY, b"tree\n", b"dir /d\n"), Answer(0, counted(entries=1), b"")),
+        *(("a word more on one side", one + other, Answer(4, b"- " + one[len(HEADING) : -len(END)] + b"+ " + other[len(HEADING) : -len(END)] + one_different("entries"), b""))
+          for one, other in (MORE, MORE[::-1])),
+        ("descriptors and buffers by their numbers", report(*HELD, b"buffer 0 0 len=16\n", b"buffer 0 1 len=8\n") + report(HELD[0], HELD[1], b"descriptor 4 desc=2\n", *HELD[3:], b"buffer 0 0 len=16\n", b"buffer 0 1 len=9\n"),
+         Answer(4, b"- descriptor 4 desc=1\n+ descriptor 4 desc=2\n- buffer 0 1 len=8\n+ buffer 0 1 len=9\n"
+                + b"".join(b"%s 0 equal, 0 different, 0 outside\n" % it for it in (b"entries", b"tree")) + b"slots 1 equal, 1 different, 0 outside\nbuffers 1 equal, 1 different, 0 outside\n", b"")),
         ("names on one side", report(b"0 user=7 res=-2 posted name=OPENAT errno=ENOENT\n") + report(b"0 user=7 res=-2 posted op=18\n"),
          Answer(0, counted(entries=1), b"")),
     ]
+
+
+def one_different(section: str) -> bytes:
+    """The counts where one line of a section is different, and no other is compared."""
+    return counted().replace("{} 0 equal, 0".format(section).encode(), "{} 0 equal, 1".format(section).encode())
 
 
 def told(program: Program, name: str, given: bytes, wanted: Answer) -> List[Outcome]:

@@ -2,7 +2,7 @@
 the examples, recorded ones, and drawn ones of each form; half of them with any values in the fields of entries, and half of version 3."""
 import random
 from functools import partial
-from typing import List, Optional, Tuple
+from typing import Iterator, List, Optional, Tuple
 
 import days
 import examples
@@ -11,7 +11,7 @@ import model_text
 import record_traces
 import traces
 from drawing import LAST, Draw
-from harness import Answer, Job, Outcome, Program, difference, first, read
+from harness import Answer, Job, Outcome, Program, difference, first, read, spoken
 
 # How many traces are drawn, in how many lots.
 DRAWN, LOTS = 3_000, 6
@@ -19,6 +19,18 @@ OPCODES = (*range(64), 64, 255)
 NUMBERS = (0, 0, 0, 1, 2, 7, 63, 100, (1 << 31) - 1, 1 << 31, (1 << 32) - 100, (1 << 32) - 1, 1 << 32, (1 << 63) + 5, (1 << 64) - 1)
 # Flags that openat takes, whichever of them they are.
 OPEN_FLAGS = 0x1EDFC2
+# Of some texts the lines, from 1, before which `--places` puts a line; and those that `--first N` gives otherwise.
+PLACES = (
+    ("bytes_of_a_file_are_told_before_those_of_a_buffer", {7: "# 0", 9: "  # 1", 10: "  # 2"}),
+    ("version_3/fill_of_zeros", {4: "# 0", 7: "# 1", 8: "# 2", 10: "  # 3", 12: "  # 4"}),
+    ("version_3/copies_of_nothing", {5: "# 0", 7: "# 1", 9: "# 2", 10: "# 3", 11: "# 4", 12: "# 5", 13: "# 6", 15: "  # 7", 16: "  # 8", 17: "# 9", 19: "  # 10", 20: "  # 11", 21: "  # 12"}),
+)
+FIRST = (
+    ("bytes_of_a_file_are_told_before_those_of_a_buffer", 10, {}),
+    ("bytes_of_a_file_are_told_before_those_of_a_buffer", 3, {2: 'file /a "012" ...', 7: 'fill 0 buffer=0 "wxy" ...'}),
+    ("version_3/texts_of_ranges_and_zeros", 1, {4: 'file /a "a" ... at=2 "c" at=7 "d" ...'}),
+    ("version_3/fill_of_zeros", 3, {2: 'file /a "012" ...', 7: 'fill 0 buffer=0 "abc" ...'}),
+)
 PATHS = (b"/a", b"a/b c", b"", b"/\xff\\\n", b"/" + b"n" * 90, b"#", b'"')
 
 
@@ -154,6 +166,25 @@ def lot(program: Program, seeds: range) -> List[Outcome]:
     return [Outcome("texts of {} to {}{} by {}".format(seeds[0], seeds[-1], day, program.compiler), first(faults))]
 
 
+def by_hand() -> Iterator[Tuple[str, bool, Optional[int], bytes]]:
+    """Examples with `--places`, or with `--first` and a number, and their texts."""
+    for name, places in PLACES:
+        lines = read(name + ".text").decode().splitlines()
+        yield name, True, None, "".join("{}\n".format(it) for number, line in enumerate(lines, 1) for it in ([places[number]] if number in places else []) + [line]).encode()
+    for name, most, others in FIRST:
+        lines = read(name + ".text").decode().splitlines()
+        yield name, False, most, "".join(others.get(number, line) + "\n" for number, line in enumerate(lines, 1)).encode()
+
+
+def of_hand(program: Program) -> List[Outcome]:
+    outcomes = []
+    for name, has_places, most, text in by_hand():
+        words = ["show", *(["--places"] if has_places else []), *([] if most is None else ["--first", str(most)])]
+        told = difference(program.run(words, read(name + ".trace")), Answer(0, text, b""))
+        outcomes.append(Outcome("the text of {} by hand, {}, by {}".format(name, spoken(words), program.compiler), told))
+    return outcomes
+
+
 def of_examples(program: Program) -> List[Outcome]:
     """The examples and recorded traces: those that are accepted are shown, the others refused in the same words."""
     outcomes = []
@@ -182,5 +213,5 @@ def jobs(programs: List[Program]) -> List[Job]:
     size = DRAWN // LOTS
     starts = [at + back for back in (0, days.first_seed()) for at in range(0, DRAWN // 2, size)]
     lots = [range(at, at + size) for at in starts]
-    found: List[Job] = [partial(of, it) for it in programs for of in (of_examples, of_long_paths)]
+    found: List[Job] = [partial(of, it) for it in programs for of in (of_examples, of_hand, of_long_paths)]
     return found + [partial(lot, program, it) for program in programs for it in (lots if program is programs[0] else lots[:1])]
