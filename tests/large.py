@@ -8,7 +8,7 @@ import subprocess
 import sys
 import tempfile
 from functools import partial
-from typing import List, Tuple
+from typing import Iterator, List, Tuple
 
 import record_traces
 from harness import TOP, Answer, Job, Outcome, Program, Timed, difference, first, read, refused, reports_refused, shown, spoken
@@ -141,6 +141,34 @@ def long_records(program: Program) -> List[Outcome]:
     shell = "{{ printf 'URINGTRC\\003'; head -c {} /dev/zero; }} | {{ ulimit -v {}; exec \"$@\"; }}".format(1 << 31, STREAM_MEMORY)
     got = program.run(["check"], None, shell=shell)
     outcomes.append(Outcome("check of zeros of version 3 by {}".format(program.compiler), difference(got, refused("Limit at 32"))))
+    return outcomes
+
+
+def longest_texts() -> Iterator[Tuple[str, str, List[str], int]]:
+    """What a text has the most of, the lines before, those lines, and how many of these it may have."""
+    one, three = "uring-trace 1\n", "uring-trace 3\n"
+    yield "items", one, ["dir /{}\n".format(it) for it in range(65_536)], 65_535
+    yield "descriptions", one, ["open {} / O_RDONLY\n".format(it) for it in range(65_536)], 65_535
+    yield "entries of a call", one + "ring 0\nenter 0\n", ["NOP\n"] * 32_769, 32_768
+    fills = one + "ring 0\nbuffer 0 0 1\n"
+    yield "fills", fills, ["fill 0 buffer=0\n"] * (MOST_PLACES + 1), MOST_PLACES
+    yield "entries behind fills", fills + "fill 0 buffer=0\n" * (MOST_PLACES - 1) + "enter 0\n", ["NOP\n"] * 2, 1
+    yield "descriptions of version 3", three, ["open {} / O_RDONLY\n".format(it) for it in range((1 << 20) + 1)], 1 << 20
+    yield "rings of version 3", three, ["ring {}\n".format(it) for it in range((1 << 20) + 1)], 1 << 20
+    yield "buffers of version 3", three + "ring 0\n", ["buffer {} 0 0\n".format(it) for it in range(16_385)], 16_384
+    yield "entries of version 3", three + "ring 0\nenter 0\n", ["NOP\n"] * 32_769, 32_768
+
+
+def long_texts(program: Program) -> List[Outcome]:
+    """A text with the most of each is made a trace, and one more is refused at its line."""
+    outcomes = []
+    for what, front, lines, most in longest_texts():
+        made = program.run(["make"], (front + "".join(lines[:most])).encode())
+        told = None if made.status == 0 else shown(made)
+        line = front.count("\n") + most + 1
+        wanted = Answer(1, b"", "text refused: {}:1: there is one more of these than a trace may have\n".format(line).encode())
+        told = told or difference(program.run(["make"], (front + "".join(lines)).encode()), wanted)
+        outcomes.append(Outcome("a text of the most {}, and one more, by {}".format(what, program.compiler), told))
     return outcomes
 
 
@@ -350,5 +378,5 @@ def emptied(program: Program) -> List[Outcome]:
 
 
 def jobs(programs: List[Program]) -> List[Job]:
-    alone = [partial(it, programs[0]) for it in (tried, long_reports, long_records, many_rings, deep_tree, deep_paths, full_table, many_entries, long_transfers, shared_lists, long_bytes, at_the_position, holes, emptied, waiting, carrying_little)]
+    alone = [partial(it, programs[0]) for it in (tried, long_reports, long_records, long_texts, many_rings, deep_tree, deep_paths, full_table, many_entries, long_transfers, shared_lists, long_bytes, at_the_position, holes, emptied, waiting, carrying_little)]
     return [*alone, *(partial(on_threads, it) for it in programs)]

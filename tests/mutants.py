@@ -49,7 +49,7 @@ SECONDS, TIMES, MEMORY = 1.0, 20, 3 << 30
 PLANTED = "planted"
 PLANT = "\n\ndef {}(count: int) -> bool:\n    return count < 7\n".format(PLANTED)
 # The readers of which each change is met, or stands in mutants.txt.
-READY = ("model", "model_records", "model_text", "model_diff")
+READY = ("model", "model_records", "model_depends", "model_text", "model_diff")
 
 
 class Slow(BaseException):
