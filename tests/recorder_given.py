@@ -11,7 +11,7 @@ from harness import EXAMPLES, Job, Outcome, Program, first, skipped
 from recorded import FOLDERS, SOURCES, compared, read_file, traces_in
 from recorder import UNTRIED, Built, accepted, fault_of, ran_in, record_strictly, replayed, tools
 from recorder_streams import LOCK, record, streams
-from traces import FADVISE, FSYNC, MKDIRAT, OPENAT, READ, READ_FIXED, SYNC_FILE_RANGE, UNLINKAT, WRITE_FIXED
+from traces import FADVISE, FALLOCATE, FSYNC, FTRUNCATE, LINKAT, MKDIRAT, OPENAT, READ, READ_FIXED, READV, RENAMEAT, SYNC_FILE_RANGE, UNLINKAT, WRITE_FIXED
 
 # The opcodes that the profile does not serve, of those that are recorded here.
 UNSERVED = POLL_ADD, TIMEOUT, ASYNC_CANCEL, LINK_TIMEOUT, STATX, MADVISE, RECV, EPOLL_CTL, SYMLINKAT, NONE = 6, 11, 14, 15, 21, 25, 27, 29, 38, 200
@@ -41,6 +41,13 @@ MODES = (
     Mode("filled", [(READ, 5, PASSES), (RECV, 4, PASSES)], (5, 0)),
     Mode("filled_buffer", [(READ_FIXED, 5, PASSES), (WRITE_FIXED, 5, PASSES), (RECV, 6, PASSES), (WRITE_FIXED, 6, PASSES)], (5, 0), (0, 1)),
     Mode("told", [(STATX, 0, PASSES)] * 3 + [(STATX, -22, FAILS)] * 3, (16, 0), (2, 0)),
+    Mode("links", [
+        (SYNC_FILE_RANGE, -22, PASSES), (FALLOCATE, -22, PASSES), (FTRUNCATE, -22, PASSES), (STATX, -2, PASSES), (MKDIRAT, -17, PASSES),
+        (UNLINKAT, -2, PASSES), (RENAMEAT, -2, PASSES), (LINKAT, -2, PASSES), (MKDIRAT, 0, PASSES)], (21, 0), (3, 0)),
+    Mode("otherwise", [
+        (READ, 0, PASSES), (READ_FIXED, -14, FAILS), (READV, -22, FAILS), (FSYNC, -22, FAILS), (RENAMEAT, -39, FAILS), (LINKAT, -2, FAILS),
+        (RENAMEAT, -22, FAILS)], (9, 0), (3, 0)),
+    Mode("numbers", [(OPENAT, -24, FAILS)] * 2, (6, 0)),
     Mode("quiet", [(POLL_ADD, 0, PASSES), (EPOLL_CTL, -9, FAILS)], (5, 0), (0, 1)),
     # (the recorder makes a call for each name)
     Mode("names", [(MKDIRAT, 0, PASSES)] * 2 + [(UNLINKAT, 0, PASSES), (OPENAT, 0, PASSES)], (13, 0), (5, 0)),

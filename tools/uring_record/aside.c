@@ -225,6 +225,9 @@ enum outside outside_by_result(const struct flight *flight, i32 result)
 		return OUTSIDE_LARGE;
 	if (result == -ENOTEMPTY && is_empty_in_tree(flight))
 		return OUTSIDE_LINK;
+	if (is_of_linux(flight, result) ||
+	    (result == -EOPNOTSUPP && sqe->flags & FLAG_DRAIN && flight->ring->has_quiet))
+		return OUTSIDE_SYSTEM;
 	if (options.format == 3 && is_undecided(flight, result))
 		return result == -EFAULT ? OUTSIDE_MEMORY : OUTSIDE_SYSTEM;
 	if (options.format == 3 && result != -EFBIG)

@@ -1,6 +1,7 @@
 #include "completions.h"
 #include "ahead.h"
 #include "aside.h"
+#include "given.h"
 #include "meetings.h"
 #include "memory.h"
 #include "notes.h"
@@ -289,6 +290,29 @@ static void look_at_number(struct flight *flight, i32 result)
 	put_aside(entry, is_beyond ? OUTSIDE_DESCRIPTOR : OUTSIDE_ORDER);
 }
 
+/* The member before one in its chain, but for a timeout that did not fire, or NULL. */
+static struct entry *member_before(struct entry *entry)
+{
+	for (struct entry *it = entry; entry->head && it > entry->head;) {
+		it--;
+		if (it->opcode != IORING_OP_LINK_TIMEOUT || it->result != -ECANCELED)
+			return it;
+	}
+	return NULL;
+}
+
+/* An entry ran behind one that failed: Linux lets a chain go on so, and the profile does not. */
+static void look_at_link(struct entry *entry, i32 result)
+{
+	struct entry *before = result == -ECANCELED ? NULL : member_before(entry);
+
+	if (!before || before->state != ENTRY_POSTED || before->result >= 0 || before->is_aside ||
+	    before->sqe.flags & FLAG_HARD || !fails_alone(before->opcode))
+		return;
+	note("an entry that failed, behind which Linux lets its chain go on", before);
+	put_aside(before, OUTSIDE_LINKS);
+}
+
 /* What follows from the result of an entry. */
 static void completed(struct flight *flight, pid_t thread, i32 result, bool is_fresh)
 {
@@ -299,6 +323,7 @@ static void completed(struct flight *flight, pid_t thread, i32 result, bool is_f
 	entry->result = result;
 	entry->completed = time_now();
 	look_at_number(flight, result);
+	look_at_link(entry, result);
 	enum outside why =
 		entry->replaced && result < 0 ? OUTSIDE_OPCODE : outside_by_result(flight, result);
 	if (why == OUTSIDE_OPCODE)
@@ -344,7 +369,9 @@ static void land_silent(struct flight *flight, pid_t thread)
 		entry->state = ENTRY_SILENT;
 		if (flight->opens || awaits_slot(entry)) /* (nobody is told which it got) */
 			put_aside(entry, OUTSIDE_SLOT);
-		if (entry->is_aside || entry->outside == OUTSIDE_OPCODE)
+		/* (one that fails silently has changed nothing) */
+		bool has_failed = reason_of(entry) == OUTSIDE_LINKS;
+		if ((entry->is_aside && !has_failed) || entry->outside == OUTSIDE_OPCODE)
 			outside_ended(flight, thread, 0);
 	}
 	if (flight->is_late)

@@ -3,8 +3,11 @@
 #include "paths.h"
 
 #include <errno.h>
+#include <fcntl.h>
+#include <stdio.h>
 #include <stdlib.h>
 #include <string.h>
+#include <sys/resource.h>
 #include <sys/stat.h>
 
 /* What the replay decides. */
@@ -142,6 +145,154 @@ bool is_undecided(const struct flight *flight, i32 result)
 		return is_cut(flight, result);
 	/* (whether a chain cancels it is known when that has ended) */
 	return result != -ECANCELED && !fails_with(flight, -result);
+}
+
+/* What Linux does otherwise. */
+
+/* Whether there is something at a path of the trace, and a directory. */
+static bool is_there(const char *path, bool *is_directory)
+{
+	struct stat status;
+	char *full = outside_path(path);
+	bool is_any = !lstat(full, &status);
+
+	*is_directory = is_any && S_ISDIR(status.st_mode);
+	free(full);
+	return is_any;
+}
+
+/* Whether the file of an entry is a directory. */
+static bool is_on_directory(const struct flight *flight)
+{
+	const struct opened *used = flight->used;
+	struct stat status;
+
+	if (!used || (used->descriptor < 0 && !used->name))
+		return false;
+	return !(used->descriptor < 0 ? stat(used->name, &status)
+				      : fstat(used->descriptor, &status)) &&
+	       S_ISDIR(status.st_mode);
+}
+
+/* Whether a file may not be read or written as an entry does. */
+static bool has_other_access(const struct flight *flight)
+{
+	bool reads = reads_bytes(flight->asked_for.opcode);
+
+	return flight->used && flight->used->access == (reads ? O_WRONLY : O_RDONLY);
+}
+
+/* The same of a read or write: of other tests that come first, and of an end that is no offset. */
+static bool moves_as_linux(const struct flight *flight, i32 result)
+{
+	u64 offset = flight->asked_for.off;
+
+	switch (result) {
+	case 0:
+		return !flight->asked && is_on_directory(flight);
+	case -EFAULT:
+		return is_fixed(flight->asked_for.opcode) &&
+		       (has_other_access(flight) || is_on_directory(flight));
+	case -EINVAL:
+		return offset <= INT64_MAX && flight->asked > INT64_MAX - offset;
+	default:
+		return false;
+	}
+}
+
+/* Whether both names of an entry have faults, of which Linux may tell the other one. */
+static bool has_two_faults(const struct flight *flight)
+{
+	bool is_directory;
+
+	return flight->names[0] && flight->names[1] && !is_there(flight->names[0], &is_directory) &&
+	       !has_parent(flight->names[1]);
+}
+
+/* The same of a rename or link. */
+static bool renames_as_linux(const struct flight *flight, i32 result)
+{
+	const struct io_uring_sqe *sqe = &flight->asked_for;
+	bool is_rename = sqe->opcode == OP_RENAMEAT, is_directory = false;
+
+	switch (result) {
+	case -ENOTEMPTY:
+		return is_rename && flight->names[0] && is_there(flight->names[0], &is_directory) &&
+		       !is_directory;
+	case -EEXIST:
+		return is_rename && !(sqe->rename_flags & RENAME_NOREPLACE);
+	case -ENOENT:
+	case -ENOTDIR:
+	case -ENAMETOOLONG:
+		return has_two_faults(flight);
+	default:
+		return false;
+	}
+}
+
+/* Whether the process may have fewer numbers now than the table has. */
+static bool has_fewer_numbers(pid_t process)
+{
+	struct rlimit limit = { RLIM_INFINITY, RLIM_INFINITY };
+
+	prlimit(process, RLIMIT_NOFILE, NULL, &limit);
+	return limit.rlim_cur < trace.table_size;
+}
+
+bool is_of_linux(const struct flight *flight, i32 result)
+{
+	const struct io_uring_sqe *sqe = &flight->asked_for;
+
+	if (flight->entry->is_aside)
+		return false;
+	if (moves_bytes(sqe->opcode))
+		return moves_as_linux(flight, result);
+	if (sqe->opcode == OP_RENAMEAT || sqe->opcode == OP_LINKAT)
+		return renames_as_linux(flight, result);
+	return result == -EMFILE && opens_in_table(sqe) && has_fewer_numbers(flight->process);
+}
+
+bool fails_alone(u8 opcode)
+{
+	switch (opcode) {
+	case OP_FSYNC:
+	case OP_SYNC_FILE_RANGE:
+	case OP_STATX:
+	case OP_FALLOCATE:
+	case OP_FTRUNCATE:
+	case OP_RENAMEAT:
+	case OP_UNLINKAT:
+	case OP_MKDIRAT:
+	case OP_LINKAT:
+		return true;
+	default:
+		return false;
+	}
+}
+
+bool fails_silently(const struct flight *flight)
+{
+	const struct io_uring_sqe *sqe = &flight->asked_for;
+	u32 both = FLAG_SKIP | FLAG_LINK;
+	bool is_directory;
+
+	if ((sqe->flags & both) != both || sqe->flags & FLAG_HARD || !flight->names[0])
+		return false;
+	bool is_any = is_there(flight->names[0], &is_directory);
+	switch (sqe->opcode) {
+	case OP_MKDIRAT:
+		return is_any || !has_parent(flight->names[0]);
+	case OP_UNLINKAT:
+		return !is_any || is_directory != !!(sqe->unlink_flags & AT_REMOVEDIR);
+	case OP_LINKAT:
+		return !is_any || is_directory ||
+		       (flight->names[1] && is_there(flight->names[1], &is_directory));
+	case OP_RENAMEAT:
+	case OP_STATX:
+		return !is_any;
+	default:
+		return false;
+	}
 }
 
 /* Memory. */

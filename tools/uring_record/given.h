@@ -15,4 +15,11 @@ void give_results(struct record *record);
 /* The result that the trace gives. */
 i32 given_result(const struct entry *entry);
 
+/* Whether Linux gives such a result where the profile has another one (docs/LINUX.md). */
+bool is_of_linux(const struct flight *flight, i32 result);
+/* Whether an operation that fails lets its chain go on in Linux, once it has begun. */
+bool fails_alone(u8 opcode);
+/* Whether an entry will fail and post nothing, as far as its names tell. */
+bool fails_silently(const struct flight *flight);
+
 #endif

@@ -57,7 +57,8 @@ bool has_parent(const char *path)
 	char *full = outside_path(path);
 	struct stat status;
 	*strrchr(full, '/') = 0;
-	bool is_there = strlen(full) >= root_length && !stat(full, &status);
+	bool is_there =
+		strlen(full) >= root_length && !stat(full, &status) && S_ISDIR(status.st_mode);
 	free(full);
 	return is_there;
 }

@@ -103,9 +103,12 @@ static enum outside outside_by_fields(const struct ring *ring, const struct io_u
 	u32 served = moves_bytes(opcode) && options.format == 3 ? SERVED_RW_FLAGS : 0;
 	if ((moves_bytes(opcode) || opcode == OP_NOP) && (u32)sqe->rw_flags & ~served)
 		return OUTSIDE_FLAGS;
-	if (opcode == OP_FALLOCATE && sqe->len & (0x08 | 0x20 | 0x40))
+	if (opcode == OP_FALLOCATE && sqe->len & (0x08 | 0x20 | 0x40 | 0x80))
 		return OUTSIDE_FLAGS;
-	if (opcode == OP_RENAMEAT && sqe->rename_flags & ~(options.format == 1 ? 1U : 3U))
+	if (opcode == OP_FSYNC && sqe->off > INT64_MAX)
+		return OUTSIDE_FLAGS;
+	if (opcode == OP_RENAMEAT &&
+	    (sqe->rename_flags & ~(options.format == 1 ? 1U : 3U) || sqe->rename_flags == 3))
 		return OUTSIDE_FLAGS;
 	if (opcode == OP_LINKAT && sqe->hardlink_flags & ~0x400U)
 		return OUTSIDE_FLAGS;
@@ -449,6 +452,11 @@ static void take_served(struct flight *flight, const struct chain *chain, pid_t 
 		find_buffer(flight);
 	look_at_touches(flight);
 	look_at_names_in_flight(flight);
+	if (!entry->is_aside && fails_silently(flight)) {
+		note("an entry that fails, and that Linux lets post nothing and its chain go on",
+		     entry);
+		put_aside(entry, OUTSIDE_LINKS);
+	}
 	if (entry->sqe.opcode == OP_WRITE_FIXED)
 		fill_buffer(flight, thread);
 	meet_others(flight);

@@ -45,6 +45,7 @@ const char *const outside_words[OUTSIDE_COUNT] = {
 	[OUTSIDE_ORDER] = "order",
 	[OUTSIDE_CHAIN] = "chain",
 	[OUTSIDE_LINK] = "link",
+	[OUTSIDE_LINKS] = "links",
 	[OUTSIDE_LARGE] = "large",
 	[OUTSIDE_SYSTEM] = "system",
 	[OUTSIDE_POLLED] = "polled",

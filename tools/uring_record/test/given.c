@@ -6,10 +6,12 @@
  * refused: chains that the kernel refuses on submission. errors: errors that the world does not
  * decide, and some that it does. filled: writes of what a member before them put there. quiet:
  * members that post nothing. names: such members that make and take away names. told: what a STATX
- * tells of a path, and of what is open. */
+ * tells of a path, and of what is open. links: what fails, and lets its chain go on. otherwise:
+ * other results of Linux. numbers: fewer of them. */
 #include "raw.h"
 
 #include <poll.h>
+#include <sys/resource.h>
 #include <sys/socket.h>
 #include <sys/stat.h>
 #include <sys/uio.h>
@@ -198,9 +200,10 @@ static void send_through(const char *pipe, const char *socket)
 		fail("write");
 }
 
-/* Takes bytes from a pipe or a socket, and writes them to the file by the next member of the chain. */
-static void carry(unsigned char take, int from, unsigned char put, char *at,
-		  unsigned length, uint64_t offset, const char *what)
+/* Takes bytes from a pipe or a socket, and writes them to the file by the next member of the chain.
+ */
+static void carry(unsigned char take, int from, unsigned char put, char *at, unsigned length,
+		  uint64_t offset, const char *what)
 {
 	ask(take, from, at, length, 0, (int)length)->flags = FLAG_LINK;
 	ask(put, file, at, length, offset, (int)length);
@@ -212,7 +215,8 @@ static void filled(void)
 {
 	send_through("piped", "sent");
 	carry(OP_READ, pipes[0], OP_WRITE, memory, 5, 0, "a write of what came from a pipe");
-	carry(IORING_OP_RECV, sockets[0], OP_WRITE, more, 4, 5, "a write of what came from a socket");
+	carry(IORING_OP_RECV, sockets[0], OP_WRITE, more, 4, 5,
+	      "a write of what came from a socket");
 	ask(OP_READ, file, memory + 100, 9, 0, 9);
 	run("a read of both");
 }
@@ -342,10 +346,114 @@ static void told(void)
 	run("a mask");
 }
 
+/* An entry that fails, and a write that goes on behind it. */
+static void fails_before_write(struct io_uring_sqe *sqe, const char *what)
+{
+	static uint64_t offset;
+
+	sqe->flags |= FLAG_LINK;
+	ask_write("w", offset++, 1);
+	run(what);
+}
+
+/* What fails, and lets its chain go on. */
+static void links(void)
+{
+	static struct statx found;
+	struct io_uring_sqe *sqe;
+
+	if (mkdir("d", 0755))
+		fail("mkdir");
+	fails_before_write(ask(OP_SYNC_FILE_RANGE, file, NULL, 9, 1ULL << 63, -EINVAL), "a range");
+	fails_before_write(ask(OP_FALLOCATE, file, NULL, 0, 0, -EINVAL), "an allocation");
+	fails_before_write(ask(OP_FTRUNCATE, file, NULL, 0, UINT64_MAX, -EINVAL), "a cut");
+	sqe = ask(OP_STATX, AT_FDCWD, "none", STATX_SIZE, (uint64_t)(uintptr_t)&found, -ENOENT);
+	fails_before_write(sqe, "a status");
+	fails_before_write(ask(OP_MKDIRAT, AT_FDCWD, "d", 0755, 0, -EEXIST), "a directory");
+	fails_before_write(ask(OP_UNLINKAT, AT_FDCWD, "none", 0, 0, -ENOENT), "an unlink");
+	sqe = ask(OP_RENAMEAT, AT_FDCWD, "none", (unsigned)AT_FDCWD, 0, -ENOENT);
+	sqe->addr2 = (uint64_t)(uintptr_t) "other";
+	fails_before_write(sqe, "a rename");
+	sqe = ask(OP_LINKAT, AT_FDCWD, "none", (unsigned)AT_FDCWD, 0, -ENOENT);
+	sqe->addr2 = (uint64_t)(uintptr_t) "other";
+	fails_before_write(sqe, "a link");
+	sqe = ask(OP_MKDIRAT, AT_FDCWD, "d", 0755, 0, SILENT);
+	sqe->flags = FLAG_SKIP;
+	fails_before_write(sqe, "a directory that tells nothing");
+	sqe = ask(OP_MKDIRAT, AT_FDCWD, "new", 0755, 0, SILENT);
+	sqe->flags = FLAG_SKIP;
+	fails_before_write(sqe, "a directory that is made");
+	ask(OP_READ, file, memory, 99, 0, 10);
+	run("a read");
+}
+
+/* A rename or link of two names. */
+static struct io_uring_sqe *ask_names(unsigned char opcode, const char *one, const char *other,
+				      int result)
+{
+	struct io_uring_sqe *sqe = ask(opcode, AT_FDCWD, one, (unsigned)AT_FDCWD, 0, result);
+
+	sqe->addr2 = (uint64_t)(uintptr_t)other;
+	return sqe;
+}
+
+/* What Linux gives, and the profile otherwise. */
+static void otherwise(void)
+{
+	int only_written = open("a", O_WRONLY), directory;
+	struct iovec halves[2] = { { memory, 5 }, { memory + 5, 5 } };
+
+	if (mkdir("d", 0755) || only_written < 0 || close(open("d/in", O_CREAT | O_RDWR, 0644)))
+		fail("d");
+	directory = open("d", O_RDONLY);
+	ask(OP_READ, directory, memory, 0, 0, 0);
+	run("nothing of a directory");
+	ask(OP_READ_FIXED, only_written, memory, 9, 0, -EFAULT);
+	run("a buffer that is none, of what is only written");
+	ask(OP_READV, file, halves, 2, (1ULL << 63) - 5, -EINVAL);
+	run("an end that is no offset");
+	ask(OP_FSYNC, file, NULL, 0, 1ULL << 63, -EINVAL);
+	run("an offset that is none");
+	ask_names(OP_RENAMEAT, "d/in", "d", -ENOTEMPTY);
+	run("a file onto the directory above it");
+	ask_names(OP_LINKAT, "none", "a/b", -ENOENT);
+	run("two names that are none");
+	ask_nop(0)->flags = FLAG_LINK;
+	ask_names(OP_RENAMEAT, "a", "d/in", -EINVAL)->rename_flags = 3;
+	run("a rename with both flags");
+	ask(OP_READ, file, memory, 9, 0, 0);
+	run("a read");
+}
+
+/* The limit of numbers is lowered. */
+static void numbers(void)
+{
+	struct rlimit limit;
+	int next = dup(file);
+
+	if (next < 0 || syscall(SYS_close_range, next, ~0U, 0) || getrlimit(RLIMIT_NOFILE, &limit))
+		fail("dup");
+	limit.rlim_cur = (rlim_t)next + 2;
+	ask_nop(0);
+	run("the start");
+	if (setrlimit(RLIMIT_NOFILE, &limit))
+		fail("setrlimit");
+	for (int at = 0; at < 4; at++) {
+		ask(OP_OPENAT, AT_FDCWD, "a", 0, 0, at < 2 ? next + at : -EMFILE);
+		run("an open");
+	}
+	limit.rlim_cur++;
+	if (setrlimit(RLIMIT_NOFILE, &limit))
+		fail("setrlimit");
+	ask(OP_OPENAT, AT_FDCWD, "a", 0, 0, next + 2);
+	run("an open again");
+}
+
 static const struct mode modes[] = {
-	{ "served", served }, { "chains", chains }, { "refused", refused },
-	{ "errors", errors }, { "filled", filled }, { "filled_buffer", filled_buffer },
-	{ "quiet", quiet },   { "names", names },   { "told", told },
+	{ "served", served }, { "chains", chains },	  { "refused", refused },
+	{ "errors", errors }, { "filled", filled },	  { "filled_buffer", filled_buffer },
+	{ "quiet", quiet },   { "names", names },	  { "told", told },
+	{ "links", links },   { "otherwise", otherwise }, { "numbers", numbers },
 };
 
 int main(int count, char **words)
