@@ -36,7 +36,7 @@ MODES = (
     Mode("chains", [
         (POLL_ADD, 1, PASSES), (LINK_TIMEOUT, -125, PASSES), (LINK_TIMEOUT, -125, PASSES), (TIMEOUT, -62, FAILS), (TIMEOUT, -62, "hard"),
         (READ, 1, PASSES), (POLL_ADD, -125, PASSES), (LINK_TIMEOUT, -62, FAILS), (POLL_ADD, -125, FAILS), (ASYNC_CANCEL, 0, PASSES)], (19, 1)),
-    Mode("refused", [(NONE, -22, REFUSED), (TIMEOUT, -22, REFUSED)], (6, 0)),
+    Mode("refused", [(NONE, -22, REFUSED), (TIMEOUT, -22, REFUSED), (NONE, -22, PASSES), (201, -22, FAILS)], (10, 0)),
     Mode("errors", [(READ, -14, FAILS), (READ, 1, PASSES), (FSYNC, -22, FAILS), (FADVISE, -22, FAILS)], (8, 0), (2, 0)),
     Mode("filled", [(READ, 5, PASSES), (RECV, 4, PASSES)], (5, 0)),
     Mode("filled_buffer", [(READ_FIXED, 5, PASSES), (WRITE_FIXED, 5, PASSES), (RECV, 6, PASSES), (WRITE_FIXED, 6, PASSES)], (5, 0), (0, 1)),

@@ -307,7 +307,7 @@ static void look_at_link(struct entry *entry, i32 result)
 	struct entry *before = result == -ECANCELED ? NULL : member_before(entry);
 
 	if (!before || before->state != ENTRY_POSTED || before->result >= 0 || before->is_aside ||
-	    before->sqe.flags & FLAG_HARD || !fails_alone(before->opcode))
+	    before->sqe.flags & FLAG_HARD || !fails_alone(&before->sqe))
 		return;
 	note("an entry that failed, behind which Linux lets its chain go on", before);
 	put_aside(before, OUTSIDE_LINKS);

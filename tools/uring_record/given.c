@@ -252,16 +252,18 @@ bool is_of_linux(const struct flight *flight, i32 result)
 	return result == -EMFILE && opens_in_table(sqe) && has_fewer_numbers(flight->process);
 }
 
-bool fails_alone(u8 opcode)
+bool fails_alone(const struct io_uring_sqe *sqe)
 {
-	switch (opcode) {
-	case OP_FSYNC:
+	switch (sqe->opcode) {
+	case OP_FSYNC: /* (what is refused by its fields does not begin) */
+		return !(sqe->fsync_flags & ~(u32)IORING_FSYNC_DATASYNC);
+	case OP_UNLINKAT:
+		return !(sqe->unlink_flags & ~(u32)AT_REMOVEDIR);
 	case OP_SYNC_FILE_RANGE:
 	case OP_STATX:
 	case OP_FALLOCATE:
 	case OP_FTRUNCATE:
 	case OP_RENAMEAT:
-	case OP_UNLINKAT:
 	case OP_MKDIRAT:
 	case OP_LINKAT:
 		return true;

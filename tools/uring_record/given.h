@@ -18,7 +18,7 @@ i32 given_result(const struct entry *entry);
 /* Whether Linux gives such a result where the profile has another one (docs/LINUX.md). */
 bool is_of_linux(const struct flight *flight, i32 result);
 /* Whether an operation that fails lets its chain go on in Linux, once it has begun. */
-bool fails_alone(u8 opcode);
+bool fails_alone(const struct io_uring_sqe *sqe);
 /* Whether an entry will fail and post nothing, as far as its names tell. */
 bool fails_silently(const struct flight *flight);
 

@@ -155,6 +155,13 @@ static void refused(void)
 	ask_write("not written", 0, -ECANCELED)->flags = FLAG_LINK;
 	ask(IORING_OP_TIMEOUT, -1, memory, 7, 0, -EINVAL);
 	run("a timeout that is none");
+	ask(OP_FSYNC, file, NULL, 0, 0, -EINVAL)->fsync_flags = 8;
+	ring.sqes[(*ring.sq_tail + ring.added - 1) & *ring.sq_mask].flags = FLAG_LINK;
+	ask(OP_FSYNC, file, NULL, 0, 0, -EINVAL)->fsync_flags = 8;
+	run("a chain that is refused on every member");
+	ask(200, -1, NULL, 0, 0, -EINVAL)->flags = FLAG_LINK;
+	ask(201, -1, NULL, 0, 0, -EINVAL);
+	run("opcodes that are none");
 	ask_write("written", 0, 7);
 	run("a write");
 }
