@@ -39,6 +39,7 @@ MODES = (
     Mode("beyond", ["descriptor"], ["descriptor"], ["changed"], 6),
     Mode("alike", ["opcode", "user"], ["opcode"], ["order"], 6),
     Mode("alike_given", ["user", "descriptor"], marks_of_3=["user", "chain"], equal=1),
+    Mode("into_the_queue", ["changed"], marks_of_3=["changed"]),
     Mode("unseen", ["descriptor", "chain"], ["descriptor"], ["unseen"], 5),
     Mode("many_completions", ["opcode"], ["opcode"], equal=3),
     Mode("refused", ["system", "memory", "flags", "polled"], ["system", "memory", "flags", "polled"], equal=5),

@@ -440,6 +440,26 @@ static void look_at_names_in_flight(struct flight *flight)
 	put_aside(entry, OUTSIDE_CHAIN);
 }
 
+/* Whether an entry puts bytes into the queues of its ring: what the kernel takes there is not what
+ * was read before. */
+static bool fills_queues(const struct flight *flight)
+{
+	const struct ring *ring = flight->ring;
+	u64 entries = (u64)ring->sq_entries << (ring->flags & IORING_SETUP_SQE128 ? 7 : 6);
+	u64 completions = (u64)ring->cq_entries << (ring->flags & IORING_SETUP_CQE32 ? 5 : 4);
+
+	for (u32 at = 0; at < flight->touch_count; at++) {
+		const struct touch *touch = &flight->touches[at];
+		if (touch->kind != TOUCH_MEMORY || !touch->writes)
+			continue;
+		if (overlap(touch->from, touch->to, ring->sqes, ring->sqes + entries) ||
+		    overlap(touch->from, touch->to, ring->cq,
+			    ring->cq + ring->cq_offsets.cqes + completions))
+			return true;
+	}
+	return false;
+}
+
 /* An entry of an opcode that is served: what it points to, what it works on, and what it meets. */
 static void take_served(struct flight *flight, const struct chain *chain, pid_t thread)
 {
@@ -451,6 +471,8 @@ static void take_served(struct flight *flight, const struct chain *chain, pid_t 
 	if (is_fixed(entry->sqe.opcode))
 		find_buffer(flight);
 	look_at_touches(flight);
+	if (fills_queues(flight))
+		lose("a read into the queues of its ring");
 	look_at_names_in_flight(flight);
 	if (!entry->is_aside && fails_silently(flight)) {
 		note("an entry that fails, and that Linux lets post nothing and its chain go on",

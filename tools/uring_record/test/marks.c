@@ -493,6 +493,22 @@ static void alike_given(void)
 	expect("a read", run_one(&ring), 15);
 }
 
+/* A read into the queue of its ring, over the entry behind it. */
+static void into_the_queue(void)
+{
+	struct io_uring_sqe nop = { .opcode = OP_NOP, .user_data = 77 };
+	int from = open("b", O_CREAT | O_RDWR, 0644);
+
+	if (write(from, &nop, sizeof nop) != sizeof nop)
+		fail("b");
+	struct io_uring_sqe *sqe = add(&ring, OP_READ, from, NULL, sizeof nop, 0);
+	struct io_uring_sqe *next = add(&ring, OP_WRITE, file, "written or not", 14, 0);
+	sqe->addr = (uint64_t)(uintptr_t)next;
+	take_any(2);
+	add(&ring, OP_READ, file, bytes, 14, 0);
+	expect("a read", run_one(&ring), 14);
+}
+
 /* Completions that are never seen: of a pipe, behind a drain, and more than the queue holds. */
 static void unseen(void)
 {
@@ -766,6 +782,7 @@ static const struct mode modes[] = {
 	{ "beyond", beyond },
 	{ "alike", alike },
 	{ "alike_given", alike_given },
+	{ "into_the_queue", into_the_queue },
 	{ "unseen", unseen },
 	{ "many_completions", many_completions },
 	{ "refused", refused },
