@@ -15,8 +15,9 @@ from traces import FADVISE, FALLOCATE, FSYNC, FTRUNCATE, LINKAT, MKDIRAT, OPENAT
 
 # The opcodes that the profile does not serve, of those that are recorded here.
 UNSERVED = POLL_ADD, TIMEOUT, ASYNC_CANCEL, LINK_TIMEOUT, STATX, MADVISE, RECV, EPOLL_CTL, SYMLINKAT, NONE = 6, 11, 14, 15, 21, 25, 27, 29, 38, 200
-# Of kept recordings those opcodes that are served and given: fio leaves an address or a number of a buffer in these, which the kernel refuses.
-GIVEN_IN = {"fio_syncs_of_ranges": [SYNC_FILE_RANGE], "fio_syncs_that_are_refused": [FSYNC]}
+# Of kept recordings those opcodes that are served and given: fio leaves an address or a number of a buffer in these, which the kernel refuses. An open meets
+# another request at its name.
+GIVEN_IN = {"fio_syncs_of_ranges": [SYNC_FILE_RANGE], "fio_syncs_that_are_refused": [FSYNC], "sixteen_calls": [OPENAT]}
 # An opcode with the result that the trace gives: it fails, or not, or was refused on submission.
 Told = Tuple[int, int, str]
 PASSES, FAILS, REFUSED = "passes", "fails", "refused"

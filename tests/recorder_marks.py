@@ -66,6 +66,8 @@ MODES = (
     Mode("over_links", ["link"], ["link"], equal=40, is_whole=True),
     Mode("links_in_chains", ["opcode", "link", "path", "chain"], ["opcode", "link", "path", "chain"], equal=14, is_whole=True),
 )
+# Where a directory is after such entries is not known, and so the results have no tree.
+NO_TREE = Mode("moved_beside", ["order"], marks_of_3=["order"], equal=0)
 # Names, links among them, that are made, moved and taken away as they are drawn.
 SEEDS = range(12)
 VERSION_2 = ["--format", "2"]
@@ -194,6 +196,13 @@ def facts(tools: Tools) -> List[Outcome]:
         elif completed and int(completed[1]) < int(submitted[1]):
             faults.append("it completed before it was submitted: " + line)
     return [Outcome("marks: completions that are not seen, and times", first(faults))]
+
+
+def no_tree(tools: Tools, program: Program) -> List[Outcome]:
+    """A directory of which it is not known where it is: the results tell no tree."""
+    outcomes = [mode(tools, program, NO_TREE, words) for words in ([], VERSION_2)]
+    told = [name for name in ("moved_beside", "moved_beside" + "".join(VERSION_2)) if "\ntree\n" in read_file(tools.file("of-" + name) + ".kernel").decode()]
+    return [*outcomes, Outcome("marks: no tree where a directory is in doubt", "there is one: {}".format(told) if told else None)]
 
 
 def seldom_told(tools: Tools) -> Outcome:
@@ -374,6 +383,7 @@ def marked(programs: List[Program]) -> List[Outcome]:
         outcomes += [mode(tools, program, it, words) for it in MODES]
     outcomes += [drawn(tools, program, it) for it in SEEDS]
     outcomes += [*(read_sums(tools, program, *it) for it in WITH_SUMS), wrong_reads(tools, program)]
+    outcomes += no_tree(tools, program)
     return [*outcomes, *shell_and_git(tools, program), *facts(tools), seldom_told(tools), plot(tools), *cost(tools)]
 
 

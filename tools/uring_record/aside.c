@@ -14,6 +14,7 @@
 #include <stdlib.h>
 #include <string.h>
 #include <sys/resource.h>
+#include <sys/stat.h>
 #include <unistd.h>
 
 /* Opcodes that the profile does not serve, and that fill slots or change files. */
@@ -643,8 +644,31 @@ void outside_ended(struct flight *flight, pid_t thread, i32 result)
 	slot_ended(flight);
 }
 
+/* Whether a path of the trace leads to a directory now. */
+static bool is_directory(const struct touch *touch)
+{
+	char *name = copy_bytes((const char *)touch->path, touch->length);
+	char *full = outside_path(name);
+	struct stat status;
+	bool is_one = !lstat(full, &status) && S_ISDIR(status.st_mode);
+
+	free(name);
+	free(full);
+	return is_one;
+}
+
 void doubt_touched(const struct flight *flight, enum outside why)
 {
+	bool moves = flight->asked_for.opcode == OP_RENAMEAT;
+
+	for (u32 at = 0; moves && !trace.has_no_tree && at < flight->touch_count; at++) {
+		const struct touch *touch = &flight->touches[at];
+		if (touch->kind != TOUCH_NAME || !is_directory(touch))
+			continue;
+		note("a directory that may be at either of two names: the results have no tree",
+		     flight->entry);
+		trace.has_no_tree = true;
+	}
 	for (u32 at = 0; at < flight->touch_count; at++) {
 		const struct touch *touch = &flight->touches[at];
 		if (touch->kind == TOUCH_NAME && touch->writes)

@@ -230,8 +230,8 @@ int main(int count, char **words)
 	/* The tree is read before anything is written, which may be below the root. */
 	start_without_submission();
 	leave_unseen();
-	struct final_tree *tree =
-		options.results && !trace.is_lost && !trace.is_ended ? read_final_tree() : NULL;
+	bool is_told = !trace.is_lost && !trace.is_ended && !trace.has_no_tree;
+	struct final_tree *tree = options.results && is_told ? read_final_tree() : NULL;
 	if (options.format == 3)
 		end_as_stream(tree);
 	else

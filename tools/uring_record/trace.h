@@ -150,6 +150,7 @@ struct trace {
 	u64 description_count, description_room;
 	u64 record_count, record_room;
 	bool is_lost;		      /* something is not in it: results are not compared */
+	bool has_no_tree;	      /* what is below some directories is not known */
 	bool is_ended;		      /* it is at a limit: nothing is added */
 	u64 bytes, places;	      /* of its names, files and records; of its records */
 	u64 held;		      /* bytes of records that are not written yet */

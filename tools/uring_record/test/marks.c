@@ -210,6 +210,19 @@ static void links_in_chains(void)
 	reads_name("new/in/file", 0);
 }
 
+/* A directory is moved to a name from which another entry in flight moves one away. */
+static void moved_beside(void)
+{
+	if (mkdir("d", 0755) || mkdir("e", 0755))
+		fail("d");
+	make_file("d/in");
+	add_two(OP_RENAMEAT, "e", "f")->flags = FLAG_ASYNC;
+	add_two(OP_RENAMEAT, "d", "e")->flags = FLAG_ASYNC;
+	submit(&ring, 2);
+	take(&ring);
+	take(&ring);
+}
+
 /* The next number below a limit of those that a seed gives. */
 static uint64_t drawn;
 static unsigned draw(unsigned limit)
@@ -774,6 +787,7 @@ static const struct mode modes[] = {
 	{ "links", links },
 	{ "over_links", over_links },
 	{ "links_in_chains", links_in_chains },
+	{ "moved_beside", moved_beside },
 	{ "any_links", any_links },
 	{ "elsewhere", elsewhere_opened },
 	{ "chosen_slots", chosen_slots },
