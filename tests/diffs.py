@@ -8,7 +8,7 @@ import tempfile
 import threading
 import time
 from functools import partial
-from typing import Callable, Iterator, List, NamedTuple, Optional, Tuple
+from typing import Callable, Iterator, List, NamedTuple, Optional, Sequence, Tuple
 
 import days
 import model_diff
@@ -29,11 +29,13 @@ EACH_KIND = 5
 # The comparison as text and as objects.
 TEXT, JSON = ["diff"], ["diff", "--json"]
 FORMS = (TEXT, JSON)
+STRICT, TRUNCATED = "--strict", "--truncated"
+OPTIONS = ((), (STRICT,), (TRUNCATED,), (STRICT, TRUNCATED))
 
 
 def as_asked(words: List[str], text: bytes) -> bytes:
     """What is written of a text in the form that some words ask for."""
-    return objects(text) if words == JSON else text
+    return objects(text) if "--json" in words else text
 
 
 def in_form(words: List[str], answer: Answer) -> Answer:
@@ -44,11 +46,11 @@ def lacks_end(side: str) -> str:
     return NO_END.format(side, "line " if side == "first" else "")
 
 
-def answer_of(one: bytes, other: bytes) -> Answer:
-    """What the second comparison answers of two texts, each in a file of its own."""
+def answer_of(one: bytes, other: bytes, options: Sequence[str] = ()) -> Answer:
+    """What the second comparison answers of two texts, each in a file of its own, with some options."""
     try:
-        told, are_alike = model_diff.difference_of_two(one, other)
-        return Answer(0 if are_alike else 4, told, b"")
+        told, passes = model_diff.difference_of_two(one, other, STRICT in options, TRUNCATED in options)
+        return Answer(0 if passes else 4, told, b"")
     except model_diff.Refused as why:
         return reports_refused(str(why), model_diff.early(one, other))
 
@@ -82,7 +84,7 @@ def refusals() -> List[Refusal]:
     no_end, no_second = lacks_end("first"), lacks_end("second")
     tree, twice = b"tree\ndir /d node=1\n", b"tree\ndir /d node=1\ndir /d node=2\n"
     greatest, lone = (1 << 32) - 1, b"- " + entry(2, 4)
-    with_words = HEADING + b"1 res=4 posted outside=late\n2 res=4 posted submitted=5\n3 res=4 outside=far\n5 posted data=31\n"
+    with_words = HEADING + b"1 res=4 posted unchecked=late\n2 res=4 posted submitted=5\n3 res=4 unchecked=far\n5 posted data=31\n"
     beside = HEADING + b"1 posted res=5\n2 posted res=4 submitted=6 op=22\n4 res=1\n5 data=32 posted\n"
     return [
         Refusal("a second that is cut between lines", of_first(1, 2, 3) + END, of_second(1, 2), changed(1, 2), no_second),
@@ -92,8 +94,8 @@ def refusals() -> List[Refusal]:
         Refusal("entries that the second does not reach", of_first(1, 5, 6), of_second(1, 4) + END, changed(1), no_end),
         Refusal("entries that the second has not, and goes beyond", of_first(1, 2, 3), of_second(1, 3) + END, changed(1) + lone + changed(3), no_end),
         Refusal("entries of the second alone are told last", of_first(3, 9), of_second(1, 2, 3, 5, 9, 10) + END, changed(3, 9), no_end),
-        Refusal("entries behind the tree of the second", of_first(1, 2) + END, of_second(1) + twice + entry(2, 5) + END, changed(1), "line 5 of the second says otherwise of dir /d"),
-        Refusal("entries behind the tree of the first", of_first(1) + twice + entry(2, 4) + END, of_second(1, 2) + END, changed(1), "line 5 of the first says otherwise of dir /d"),
+        Refusal("entries behind the tree of the second", of_first(1, 2) + END, of_second(1) + twice + entry(2, 5) + END, changed(1), "line 5 of the second contradicts an earlier one about dir /d"),
+        Refusal("entries behind the tree of the first", of_first(1) + twice + entry(2, 4) + END, of_second(1, 2) + END, changed(1), "line 5 of the first contradicts an earlier one about dir /d"),
         Refusal("a heading among the entries", of_first(1) + b"ring 0\n" + entry(2, 4), of_second(1, 2) + END, changed(1), no_end),
         Refusal("an empty line among the entries", of_first(1, 2), of_second(1) + b"\n" + entry(2, 5) + END, changed(1), no_end),
         Refusal("a place that falls in the first", of_first(3, 2, 4) + END, of_second(2, 3, 4) + END, changed(3), "line 3 of the first is out of order at 2"),
@@ -107,11 +109,11 @@ def refusals() -> List[Refusal]:
         Refusal("the greatest place", of_first(greatest), of_second(greatest) + END, changed(greatest), no_end),
         Refusal("a place of 33 bits", of_first(1, greatest + 1) + END, of_second(1, greatest + 1) + END, changed(1), "line 3 of the first is out of order at 4294967296"),
         Refusal("a zero before a place", of_first(1) + b"02 res=4\n" + END, of_second(1, 2) + END, changed(1), "line 3 of the first is out of order at 02"),
-        Refusal("more behind the first's end", of_first(1) + END + entry(2, 4), of_second(1, 2) + END, changed(1), "the first goes on behind its end"),
-        Refusal("more behind the second's end", of_first(1, 2) + END, of_second(1) + END + entry(2, 5), changed(1), "the second goes on behind its end"),
-        Refusal("a line of the tree that says otherwise", of_first(1) + tree + END, of_second(1) + twice + END, changed(1), "line 5 of the second says otherwise of dir /d"),
-        Refusal("words that are no facts, and lines outside", with_words, beside + END,
-                b"~ 1 posted res=5\n~ 3 res=4 outside=far\n- 5 posted data=31\n+ 5 data=32 posted\n", no_end),
+        Refusal("more behind the first's end", of_first(1) + END + entry(2, 4), of_second(1, 2) + END, changed(1), "there is text after the end of the first"),
+        Refusal("more behind the second's end", of_first(1, 2) + END, of_second(1) + END + entry(2, 5), changed(1), "there is text after the end of the second"),
+        Refusal("a line of the tree that says otherwise", of_first(1) + tree + END, of_second(1) + twice + END, changed(1), "line 5 of the second contradicts an earlier one about dir /d"),
+        Refusal("words that are no facts, and unchecked lines", with_words, beside + END,
+                b"~ 1 posted res=5\n~ 3 res=4 unchecked=far\n- 5 posted data=31\n+ 5 data=32 posted\n", no_end),
         Refusal("two of version 1", of_first(1).replace(HEADING, FIRST_HEADING), of_second(1).replace(HEADING, FIRST_HEADING), b"", no_end),
         Refusal("version 1 beside version 2", of_first(1).replace(HEADING, FIRST_HEADING) + END, of_second(1) + END, b"", "the first is uring-report 1, the second uring-report 2"),
         Refusal("version 2 beside version 1", of_first(1) + END, of_second(1).replace(HEADING, FIRST_HEADING) + END, b"", "the first is uring-report 2, the second uring-report 1"),
@@ -137,7 +139,7 @@ def by_hand(program: Program) -> List[Outcome]:
         at.ask(it.name, ["diff", one, other], reports_refused(it.line, it.early))
         at.ask("{}, as JSON".format(it.name), ["diff", "--json", one, other], reports_refused(it.line, objects(it.early)))
         at.ask("{}, with entries".format(it.name), ["diff", "--show", TRACE, one, other], reports_refused(it.line))
-        if re.search(rb"^end$", it.one, re.M) and "first goes on" not in it.line and it.one:
+        if re.search(rb"^end$", it.one, re.M) and "end of the first" not in it.line and it.one:
             at.ask("{}, in one input".format(it.name), ["diff"], reports_refused(it.line), given=it.one + it.other)
         for words in FORMS:
             at.ask("{}, into a file, by {}".format(it.name, spoken(words)), [*words, one, other, "-o", at.path("out")], Answer(1, b"", reports_refused(it.line).errors))
@@ -145,15 +147,147 @@ def by_hand(program: Program) -> List[Outcome]:
     return at.outcomes
 
 
+class Counted(NamedTuple):
+    """Two texts of entries, options, and what is told of them: the lines, the counts of the entries, what is not compared, and the status."""
+
+    name: str
+    one: bytes
+    other: bytes
+    options: Tuple[str, ...]
+    told: bytes
+    counts: Tuple[int, int, int, int]
+    lacks: Tuple[int, int, int] = (0, 0, 0)
+    status: int = 0
+
+    def output(self) -> bytes:
+        text = "entries {} equal, {} different, {} unchecked, {} given\n".format(*self.counts)
+        text += "".join("{} 0 equal, 0 different, 0 unchecked, 0 given\n".format(it) for it in ("tree", "slots", "buffers"))
+        text += "not compared: data {} entries, sums {}, large {}\n".format(*self.lacks) if any(self.lacks) else ""
+        return self.told + text.encode()
+
+
+def lines_of(*facts: str) -> bytes:
+    """Entries of the places from 1 on, with these facts."""
+    return b"".join("{} {}\n".format(place, it).encode() for place, it in enumerate(facts, 1))
+
+
+def report_of(*facts: str) -> bytes:
+    return HEADING + lines_of(*facts) + END
+
+
+def counted() -> List[Counted]:
+    """What is given, unchecked and not compared: each rule where it decides."""
+    alike, given, other = "res=4 posted", "res=4 posted given=1", "res=5 posted"
+    unseen, unchecked = "res=4 posted completion=unseen", "res=4 posted unchecked=late"
+    short_data, whole, long = "res=64 data=31", "res=1 data=31", "res=64 data=31+"
+    with_sum, other_sum, alone = long + " data-sum=ab", long + " data-sum=cd", "res=64 data-sum=ab"
+
+    def pair(one: str, two: str) -> Tuple[bytes, bytes]:
+        return report_of(one), report_of(two)
+
+    def told(sign: str, facts: str) -> bytes:
+        return "{} 1 {}\n".format(sign, facts).encode()
+
+    return [
+        Counted("given in the first", *pair(given, alike), (), b"", (0, 0, 0, 1)),
+        Counted("given in the second", *pair(alike, given), (), b"", (0, 0, 0, 1)),
+        Counted("given in both", *pair(given, given), (), b"", (0, 0, 0, 1)),
+        Counted("given, and another result", *pair(given, other), (), told("-", given) + told("+", other), (0, 1, 0, 0), status=4),
+        Counted("given, and unchecked", *pair(given, unchecked), (), told("~", unchecked), (0, 0, 1, 0)),
+        Counted("given=2 is not given", *pair(alike + " given=2", alike), (), b"", (1, 0, 0, 0)),
+        Counted("a result that was not seen", *pair(alike, unseen), (), told("~", unseen), (0, 0, 1, 0)),
+        Counted("another result that was not seen", *pair(other, unseen), (), told("~", unseen), (0, 0, 1, 0)),
+        Counted("a result that was not seen in the first", *pair(unseen, other), (), told("~", other), (0, 0, 1, 0)),
+        Counted("another word of a completion", *pair(alike + " completion=late", alike), (), b"", (1, 0, 0, 0)),
+        Counted("a result that was not seen, alone", report_of(alike, unseen), report_of(alike), (), b"~ 2 " + unseen.encode() + b"\n", (1, 0, 1, 0)),
+        Counted("bytes that both show", *pair(whole, whole), (STRICT,), b"", (1, 0, 0, 0)),
+        Counted("bytes that one does not show", *pair(whole, "res=1"), (), b"", (1, 0, 0, 0), (1, 0, 0)),
+        Counted("the same in a strict comparison", *pair(whole, "res=1"), (STRICT,), b"", (1, 0, 0, 0), (1, 0, 0), 4),
+        Counted("bytes of which both show the first ones", *pair(long, long), (), b"", (1, 0, 0, 0), (1, 0, 0)),
+        Counted("bytes of which one shows the first ones", *pair(short_data, long), (), told("-", short_data) + told("+", long), (0, 1, 0, 0), (1, 0, 0), 4),
+        Counted("bytes and their sum", *pair(with_sum, with_sum), (STRICT,), b"", (1, 0, 0, 0)),
+        Counted("bytes and another sum", *pair(with_sum, other_sum), (), told("-", with_sum) + told("+", other_sum), (0, 1, 0, 0), status=4),
+        Counted("bytes with their sum on one side", *pair(with_sum, long), (), b"", (1, 0, 0, 0), (1, 0, 0)),
+        Counted("a sum alone, beside bytes with it", *pair(alone, with_sum), (STRICT,), b"", (1, 0, 0, 0)),
+        Counted("a sum beside bytes that are all shown", *pair(alone, short_data), (), b"", (1, 0, 0, 0), (1, 0, 0)),
+        Counted("data without a value is shown", *pair("res=0 data=", "res=0 data="), (STRICT,), b"", (1, 0, 0, 0)),
+        Counted("bytes of given entries are not counted", *pair(given + " data=31+", given), (STRICT,), b"", (0, 0, 0, 1)),
+        Counted("bytes of unchecked entries are not counted", *pair(alike + " data=31", unchecked), (STRICT,), told("~", unchecked), (0, 0, 1, 0)),
+        Counted("bytes of an entry that one lacks are not counted", report_of(alike, long), report_of(alike), (), b"- 2 " + long.encode() + b"\n", (1, 1, 0, 0), status=4),
+        Counted("a sum on one side", *pair(alike + " sum=ab", alike), (), b"", (1, 0, 0, 0), (0, 1, 0)),
+        Counted("a sum on the other side", *pair(alike, alike + " sum=ab"), (STRICT,), b"", (1, 0, 0, 0), (0, 1, 0), 4),
+        Counted("a sum on both sides", *pair(alike + " sum=ab", alike + " sum=ab"), (STRICT,), b"", (1, 0, 0, 0)),
+        Counted("large on both sides", *pair(alike + " sum=large", alike + " sum=large"), (STRICT,), b"", (1, 0, 0, 0), (0, 0, 1), 4),
+        Counted("each of them", report_of(whole, alike + " sum=ab", alike + " sum=large"), report_of("res=1", alike, alike + " sum=large"), (), b"", (3, 0, 0, 0), (1, 1, 1)),
+        *truncated(),
+    ]
+
+
+def truncated() -> List[Counted]:
+    """A second report that was cut off."""
+    three, rest = of_first(1, 2, 3) + b"tree\ndir /d node=1\n" + END, b"tree\ndir /d node=1\nfile /d/a si"
+    third = b"~ " + entry(3, 4)
+
+    def cut(name: str, one: bytes, other: bytes, told: bytes, counts: Tuple[int, int, int, int], status: int = 0) -> Counted:
+        return Counted(name, one, other, (TRUNCATED,), told, counts, status=status)
+
+    return [
+        cut("cut off between lines", three, of_first(1, 2), third, (2, 0, 1, 0)),
+        cut("cut off in a line", three, of_first(1, 2) + b"3 ring=0 us", third, (2, 0, 1, 0)),
+        cut("cut off in a line feed", three, of_first(1, 2, 3)[:-1], third, (2, 0, 1, 0)),
+        cut("cut off in the tree", three, of_first(1, 2) + rest, third, (2, 0, 1, 0)),
+        cut("cut off behind its entries", three, of_first(1, 2, 3), b"", (3, 0, 0, 0)),
+        cut("cut off behind its heading", three, HEADING, b"".join(b"~ " + entry(it, 4) for it in (1, 2, 3)), (0, 0, 3, 0)),
+        cut("entries before the last one are looked for", three, of_first(1, 3), b"- " + entry(2, 4), (2, 1, 0, 0), 4),
+        cut("another result", three, of_first(1) + entry(2, 5), b"- " + entry(2, 4) + b"+ " + entry(2, 5) + third, (1, 1, 1, 0), 4),
+        cut("a second that goes on behind the first", of_first(1, 2) + END, of_first(1, 2, 5, 7), b"~ " + entry(5, 4) + b"~ " + entry(7, 4), (2, 0, 2, 0)),
+        cut("an entry of the second between those of the first", of_first(1, 3) + END, of_first(1, 2, 3), b"+ " + entry(2, 4), (2, 1, 0, 0), 4),
+        cut("an entry of the second before the last of the first, which it passes", of_first(5) + END, of_first(3, 5, 6), b"+ " + entry(3, 4) + b"~ " + entry(6, 4), (1, 1, 1, 0), 4),
+        cut("no entries in the first", HEADING + END, of_first(1, 2), b"~ " + entry(1, 4) + b"~ " + entry(2, 4), (0, 0, 2, 0)),
+        cut("a second that is not cut off", three, of_first(1, 2) + END, b"- " + entry(3, 4), (2, 1, 0, 0), 4),
+    ]
+
+
+def refused_when_truncated() -> List[Refusal]:
+    """What is refused with `--truncated` too."""
+    well = of_first(1, 2) + END
+    return [
+        Refusal("a first without its end", of_first(1, 2), of_first(1), b"", lacks_end("first")),
+        Refusal("a second of version 1 without its end", well.replace(HEADING, FIRST_HEADING), of_first(1).replace(HEADING, FIRST_HEADING), b"", lacks_end("second")),
+        Refusal("a heading that is cut off", well, HEADING[:-1], b"", lacks_end("second")),
+        Refusal("a heading that is cut off in its word", well, HEADING[:-4], b"", NO_HEADING.format("second")),
+        Refusal("a place that falls before the cut", well, of_first(2, 1), b"- " + entry(1, 4), "line 3 of the second is out of order at 1"),
+        Refusal("text after the end", well, well + entry(3, 4), b"", "there is text after the end of the second"),
+    ]
+
+
+def by_rules(program: Program) -> List[Outcome]:
+    """What is counted by each rule, of two files, as text and as JSON, of one input, and by the second comparison."""
+    at = Folder(program)
+    for it in counted():
+        wanted, files = Answer(it.status, it.output(), b""), [at.put("one", it.one), at.put("other", it.other)]
+        at.said("{}, by the second comparison".format(it.name), difference(answer_of(it.one, it.other, it.options), wanted))
+        at.ask(it.name, ["diff", *it.options, *files], wanted)
+        at.ask("{}, as JSON".format(it.name), [*JSON, *it.options, *files], in_form(JSON, wanted))
+        at.ask("{}, in one input".format(it.name), ["diff", *it.options], wanted, given=it.one + it.other)
+    for it in refused_when_truncated():
+        files = [at.put("one", it.one), at.put("other", it.other)]
+        at.said("{}, by the second comparison".format(it.name), difference(answer_of(it.one, it.other, (TRUNCATED,)), reports_refused(it.line, it.early)))
+        at.ask("{}, truncated".format(it.name), ["diff", TRUNCATED, *files], reports_refused(it.line, it.early))
+    return at.outcomes
+
+
 # --- Drawn ----------------------------------------------------------------------------------------------------------
 
 def of_pair(program: Program, seed: int) -> Optional[str]:
-    """How the program compares a drawn pair otherwise than the second comparison, if it does, in each form."""
-    one, other = Pair(seed).texts
-    wanted, early = answer_of(one, other), model_diff.early(one, other)
+    """How the program compares a drawn pair otherwise than the second comparison, if it does, in each form. With `--truncated` most second texts are cut."""
+    (one, other), options = Pair(seed).texts, OPTIONS[seed // 8 % len(OPTIONS)]
+    if TRUNCATED in options and seed % 3:
+        other = other[: random.Random("cut {}".format(seed)).randrange(len(other) + 1)]
+    wanted, early = answer_of(one, other, options), model_diff.early(one, other)
     if not wanted.output.startswith(early):
         return "by the second comparison: the whole text does not begin with {}".format(short(early))
-    return first([told for words in FORMS for told in [of_texts(program, seed, words, one, other, in_form(words, wanted))] if told])
+    return first([told for words in FORMS for told in [of_texts(program, seed, [*words, *options], one, other, in_form(words, wanted))] if told])
 
 
 def of_texts(program: Program, seed: int, words: List[str], one: bytes, other: bytes, wanted: Answer) -> Optional[str]:
@@ -224,7 +358,7 @@ def stalled(words: List[str], program: Program) -> List[Outcome]:
                 wrong = "it writes {}".format(short(bytes(fed.output[len(told) :])))
             outcomes.append(Outcome("{} of the {} come, and both stall, {}".format(what, ("first", "second")[side], how), wrong))
         behind = b"".join(b"+ " + entry(it, 5) for it in (3, 4))
-        counts = b"entries 0 equal, 5 different, 0 outside\ntree 0 equal, 1 different, 0 outside\nslots 0 equal, 0 different, 0 outside\nbuffers 0 equal, 0 different, 0 outside\n"
+        counts = b"entries 0 equal, 5 different, 0 unchecked, 0 given\ntree 0 equal, 1 different, 0 unchecked, 0 given\nslots 0 equal, 0 different, 0 unchecked, 0 given\nbuffers 0 equal, 0 different, 0 unchecked, 0 given\n"
         wanted = Answer(4, told + as_asked(words, b"- dir /d node=1\n+ dir /d node=2\n" + behind + counts), b"")
         outcomes.append(Outcome("both end, {}".format(how), difference(fed.end(), wanted)))
     return outcomes
@@ -336,7 +470,7 @@ def blocks_compared(words: List[str], program: Program, blocks: int, ends: Tuple
 
 
 def counts_of(equal: int, different: int = 0, tree: int = 1) -> bytes:
-    told = "entries {} equal, {} different, 0 outside\ntree {} equal, 0 different, 0 outside\nslots {} equal, 0 different, 0 outside\nbuffers 0 equal, 0 different, 0 outside\n"
+    told = "entries {} equal, {} different, 0 unchecked, 0 given\ntree {} equal, 0 different, 0 unchecked, 0 given\nslots {} equal, 0 different, 0 unchecked, 0 given\nbuffers 0 equal, 0 different, 0 unchecked, 0 given\n"
     return told.format(equal, different, tree, tree).encode()
 
 
@@ -359,8 +493,8 @@ def refused_at_the_end(words: List[str], program: Program) -> List[Outcome]:
     last = 102 + BLOCK * 100 + len(SECTIONS.splitlines()) - 100
     cases = (
         ("the second has no end", (END, b""), lacks_end("second")), ("the first has no end", (b"", END), lacks_end("first")),
-        ("the second goes on", (END, END * 2), "the second goes on behind its end"), ("a place falls", (b"5 res=0\n" + END, END), "line {} of the first is out of order at 5".format(last)),
-        ("a file of two sizes", (END, b"file /a size=11\n" + END), "line {} of the second says otherwise of file /a".format(last)),
+        ("the second goes on", (END, END * 2), "there is text after the end of the second"), ("a place falls", (b"5 res=0\n" + END, END), "line {} of the first is out of order at 5".format(last)),
+        ("a file of two sizes", (END, b"file /a size=11\n" + END), "line {} of the second contradicts an earlier one about file /a".format(last)),
     )
     label = "{{}}, behind 100,000 entries, by {} of {}".format(spoken(words), program.compiler)
     return [Outcome(label.format(what), blocks_compared(words, program, 100, ends, reports_refused(line)).fault) for what, ends, line in cases]
@@ -397,7 +531,7 @@ def in_time(program: Program, case: int) -> List[Outcome]:
     what = out_of_step(1)[case][0]
     for count in (OUT_OF_STEP, OUT_OF_STEP // TIMES):
         _, *sides = out_of_step(count)[case]
-        names = [at.put("{} {}".format(side, count), HEADING + b"".join(entry(it, 4, " outside=late") for it in places) + END) for side, places in enumerate(sides)]
+        names = [at.put("{} {}".format(side, count), HEADING + b"".join(entry(it, 4, " unchecked=late") for it in places) + END) for side, places in enumerate(sides)]
         runs.append(Timed(["diff", *names], None))
     at.said("the time of reports {}".format(what), program.outlasts(*runs, MOST_TIMES))
     return at.outcomes
@@ -470,7 +604,7 @@ def jobs(programs: List[Program]) -> List[Job]:
     made: List[Job] = [partial(it, words, whole) for words in FORMS for it in (in_memory, past_the_limit)]
     made += [*(partial(in_time, whole, it) for it in range(3)), partial(kinds, range(DRAWN)), *(partial(of_model, it) for it in refusals())]
     for program in programs:
-        made += [partial(it, program) for it in (by_hand, by_fifos)] + [partial(it, words, program) for words in FORMS for it in (stalled, outputs, refused_at_the_end)]
+        made += [partial(it, program) for it in (by_hand, by_rules, by_fifos)] + [partial(it, words, program) for words in FORMS for it in (stalled, outputs, refused_at_the_end)]
         for start in (0, days.first_seed()) if program is whole else (0,):
             made += [partial(lot, program, "pairs of reports side by side", of_pair, range(at, at + DRAWN // 2)) for at in (start, start + DRAWN // 2)]
             for words in FORMS:

@@ -24,8 +24,8 @@ WEIGHTS = {READ: 8, WRITE: 8, READV: 3, WRITEV: 3, READ_FIXED: 5, WRITE_FIXED: 5
            OPENAT: 12, CLOSE: 6, UNLINKAT: 6, MKDIRAT: 6, LINKAT: 5, RENAMEAT: 12, 6: 1}
 OF_FILES = (READ, WRITE, READV, WRITEV, READ_FIXED, WRITE_FIXED, FSYNC, FALLOCATE, FTRUNCATE, SYNC_FILE_RANGE, FADVISE)
 # Words that a line of a report may be given, the first ones of lines, and whole lines.
-FACTS = (b"outside=x", b"op=22", b"posted", b"silent", b"", b"=", b"res=1", b"size=0", b"outside", b"a=b=c", b"a=b", b"sum=large", b"tree-sum=ab", b"submitted=5",
-         b"completed=9", b"completed")
+FACTS = (b"unchecked=x", b"op=22", b"posted", b"silent", b"", b"=", b"res=1", b"size=0", b"unchecked", b"a=b=c", b"a=b", b"sum=large", b"tree-sum=ab", b"submitted=5",
+         b"completed=9", b"completed", b"given=1", b"given=0", b"completion=unseen", b"completion=seen", b"sum=ab", b"data-sum=ab", b"data=31", b"data=31+", b"data", b"data=")
 FIRST_WORDS = (b"dir", b"file", b"link", b"slot", b"descriptor", b"buffer", b"tree", b"ring", b"0", b"1")
 LINES = (b"", b" ", b"tree", b"slots", b"buffers x", b"dir", b"slot 1", b"descriptor 0 desc=1", b"7 user=1")
 

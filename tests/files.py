@@ -15,7 +15,9 @@ EXAMPLE = "read_four_bytes"
 TRACE = os.path.join(EXAMPLES, EXAMPLE + ".trace")
 # The same of version 3.
 RECORDS = os.path.join(EXAMPLES, "version_3", EXAMPLE + ".trace")
-EQUAL = "entries 1 equal, 0 different, 0 outside\ntree 1 equal, 0 different, 0 outside\nslots 1 equal, 0 different, 0 outside\nbuffers 1 equal, 0 different, 0 outside\n".encode()
+EQUAL = "entries 1 equal, 0 different, 0 unchecked, 0 given\ntree 1 equal, 0 different, 0 unchecked, 0 given\nslots 1 equal, 0 different, 0 unchecked, 0 given\nbuffers 1 equal, 0 different, 0 unchecked, 0 given\n".encode()
+# Of the example with sums and without them.
+TWO_SUMS = b"not compared: data 0 entries, sums 2, large 0\n"
 # Commands that read a trace, each with the answer that stands beside the example, if one does.
 COMMANDS: Dict[Tuple[str, ...], bytes] = {
     ("serial",): read(EXAMPLE + ".report"), ("serial", "--sums"): read(EXAMPLE + ".sums"), ("run",): read(EXAMPLE + ".report"),
@@ -122,11 +124,11 @@ def two_files(program: Program) -> List[Outcome]:
     line = b"0 user=7 res=4 posted data=32333435"
     one, other, both = at.put("one", report), at.put("other", sums), at.put("both", report + sums)
     differs = at.put("differs", report.replace(b"res=4", b"res=5"))
-    equal = Answer(0, EQUAL, b"")
+    equal = Answer(0, EQUAL + TWO_SUMS, b"")
     changed = Answer(4, b"- " + line + b"\n+ " + line.replace(b"res=4", b"res=5") + b"\n" + EQUAL.replace(b"1 equal, 0 different", b"0 equal, 1 different", 1), b"")
     at.ask("two files", ["diff", one, other], equal)
     at.ask("two files that differ", ["diff", one, differs], changed)
-    at.ask("a file beside itself", ["diff", one, one], equal)
+    at.ask("a file beside itself", ["diff", one, one], Answer(0, EQUAL, b""))
     at.ask("both in one file", ["diff", both], equal)
     at.ask("both on standard input", ["diff"], equal, given=report + sums)
     at.ask("both on standard input", ["diff", "-"], equal, given=report + sums)
@@ -139,8 +141,8 @@ def two_files(program: Program) -> List[Outcome]:
     at.ask("an empty second", ["diff", one, at.put("empty", b"")], reports_refused("the second does not begin with uring-report 1"))
     at.ask("a first with no end", ["diff", at.put("short", report[:-4]), one], reports_refused("the first has no line end"))
     at.ask("a second with no end", ["diff", one, at.path("short")], reports_refused("the second has no end"))
-    at.ask("more behind the first", ["diff", both, one], reports_refused("the first goes on behind its end"))
-    at.ask("more behind the second", ["diff", one, both], reports_refused("the second goes on behind its end"))
+    at.ask("more behind the first", ["diff", both, one], reports_refused("there is text after the end of the first"))
+    at.ask("more behind the second", ["diff", one, both], reports_refused("there is text after the end of the second"))
     wanted = Answer(2, b"", b"")
     for words in (["diff", one, other, one], ["check", TRACE, TRACE]):
         got = program.run(words, b"")
@@ -170,16 +172,16 @@ def shown_entries(program: Program) -> List[Outcome]:
     more, less = at.put("more", report.replace(line, line + b"\n1 user=7 res=4 posted\n0x user=1")), at.put("less", report.replace(line + b"\n", b""))
     text = b"- " + line + b"\n" + entry + b"- 1 user=7 res=4 posted\n- 0x user=1\n" + EQUAL.replace(b"entries 1 equal, 0 different", b"entries 0 equal, 3 different")
     at.ask("places that the trace lacks", ["diff", "--show", TRACE, more, less], Answer(4, text, b""))
-    outside = at.put("outside", report.replace(b"posted", b"posted outside=word"))
-    text = b"~ " + line.replace(b"posted", b"posted outside=word") + b"\n" + EQUAL.replace(b"entries 1 equal, 0 different, 0", b"entries 0 equal, 0 different, 1")
-    at.ask("a line that is not compared", ["diff", "--show", TRACE, one, outside], Answer(0, text, b""))
+    unchecked = at.put("unchecked", report.replace(b"posted", b"posted unchecked=word"))
+    text = b"~ " + line.replace(b"posted", b"posted unchecked=word") + b"\n" + EQUAL.replace(b"entries 1 equal, 0 different, 0", b"entries 0 equal, 0 different, 1")
+    at.ask("a line that is not compared", ["diff", "--show", TRACE, one, unchecked], Answer(0, text, b""))
     at.ask("no trace", ["diff", "--show", one, one, other], refused("Magic at 0"))
     at.ask("no trace and no report", ["diff", "--show", one, TRACE, TRACE], refused("Magic at 0"))
     at.ask("no report", ["diff", "--show", TRACE, one, TRACE], reports_refused("the second does not begin with uring-report 1"))
     at.ask("no file", ["diff", "--show", at.path("none"), one, other], Answer(3, b"", "cannot open {}: No such file or directory (os error 2)\n".format(at.path("none")).encode()))
     at.ask("a full output", ["diff", "--show", TRACE, one, other], Answer(3, b"", b"fault: write\n"), shell='exec "$@" > /dev/full')
     at.ask("into a file", ["diff", "--show", TRACE, one, other, "-o", at.path("out")], Answer(4, b"", b""))
-    at.holds("the file has what differs", "out", differ.output, ["less", "more", "one", "other", "outside"])
+    at.holds("the file has what differs", "out", differ.output, ["less", "more", "one", "other", "unchecked"])
     trace = at.put("trace", read(EXAMPLE + ".trace"))
     at.ask("over the trace", ["diff", "--show", trace, one, other, "-o", trace], IS_AN_INPUT)
     records = os.path.join(EXAMPLES, "version_3", EXAMPLE + ".trace")
@@ -498,6 +500,6 @@ def jobs(programs: List[Program]) -> List[Job]:
     report, sums = (os.path.join(EXAMPLES, EXAMPLE + ending) for ending in (".report", ".sums"))
     for is_from in (False, True):
         for words, output in ((["serial", TRACE], read(EXAMPLE + ".report")), (["serial", RECORDS], read("version_3", EXAMPLE + ".report")), (["compare", TRACE], b"equal\n"),
-                              (["check", TRACE], read(EXAMPLE + ".check")), (["diff", report, sums], EQUAL)):
+                              (["check", TRACE], read(EXAMPLE + ".check")), (["diff", report, sums], EQUAL + TWO_SUMS)):
             made.append(partial(memory, refuse, programs[0], words, output, 0, is_from))
     return made

@@ -22,7 +22,7 @@ Pairs = List[Tuple[str, Any]]
 # The facts of reports that are numbers; every other one is a string.
 WHOLE = {"ring", "node", "desc", "len", "res", "round", "after"}
 COUNT = r"(?P<{0}>\d+)"
-COUNTS = ("rounds", "widest", "longest", "span", "large")
+COUNTS = ("rounds", "widest", "longest", "span")
 TEXTS = ("mean", "places", "pairs", "parallelism", "bytes", "span-bytes", "parallelism-bytes")
 
 
@@ -61,8 +61,9 @@ def meant(line: str) -> Pairs:
         (r"(ring) (\d+)", [("ring", int)]),
         (r"(uring-report|uring-rounds|uring-depends) (\d+)", [("version", int)]),
         (r"(ok) (\d+) places (\d+) rings$", [("places", str), ("rings", int)]),
-        (r"(entries|tree|slots|buffers) (\d+) equal, (\d+) different, (\d+) outside$", [("equal", int), ("different", int), ("outside", int)]),
-        (r"(large) (\d+) not compared$", [("large", int)]),
+        (r"(entries|tree|slots|buffers) (\d+) equal, (\d+) different, (\d+) unchecked, (\d+) given$",
+         [("equal", int), ("different", int), ("unchecked", int), ("given", int)]),
+        (r"(not compared): data (\d+) entries, sums (\d+), large (\d+)$", [("data", int), ("sums", int), ("large", int)]),
     ):
         found = re.match(pattern, line)
         if found:
@@ -142,7 +143,7 @@ def changed(draw: Draw, report: bytes) -> bytes:
     inner = range(1, len(lines) - 2)
     for at in (draw.source.choice(inner) for _ in range(4) if len(inner)):
         line = lines[at]
-        lines[at] = draw.source.choice((line + b" outside=other", line.replace(b"res=", b"res=1"), line.replace(b"size=", b"size=9"), line + b' x="\\\x01\xff', line + b" =",
+        lines[at] = draw.source.choice((line + b" unchecked=other", line + b" given=1", line.replace(b"res=", b"res=1"), line.replace(b"size=", b"size=9"), line + b' x="\\\x01\xff', line + b" =",
                                         line + b" bare  posted", line.replace(b"node=", b"node=0"), line.replace(b"desc=", b"desc=-")))
     return b"\n".join(lines)
 

@@ -22,7 +22,7 @@ SECTIONS = ("entries", "tree", "slots", "buffers")
 
 class Compared(NamedTuple):
     """A play held against the answers: what is wrong, if anything is, or why it could not be tried; of each section how many lines are equal,
-    different and outside; and the words of those that are outside."""
+    different, unchecked and given; and the words of those that are unchecked."""
 
     fault: Optional[str]
     untried: Optional[str]
@@ -122,19 +122,19 @@ def answers(program: Program, trace: bytes) -> Answer:
 
 def against(program: Program, report: bytes, got: Answer) -> Compared:
     """What was played beside the report, by `diff`."""
-    counts: Dict[str, List[int]] = {it: [0, 0, 0] for it in SECTIONS}
+    counts: Dict[str, List[int]] = {it: [0, 0, 0, 0] for it in SECTIONS}
     if got.status == UNTRIED:
         return Compared(None, got.errors.decode("utf-8", "replace").strip(), counts, [])
     if got.status or got.errors:
         return Compared(shown(got), None, counts, [])
     found = program.run(["diff"], report + got.output)
     lines = found.output.decode("utf-8", "replace").splitlines()
-    if lines and lines[-1].startswith("large "): # (files over 16 MiB have no sum)
+    if lines and lines[-1].startswith("not compared: "): # (files over 16 MiB have no sum)
         lines.pop()
     for section, line in zip(SECTIONS, lines[-len(SECTIONS):]):
         counts[section] = [int(it) for it in line.replace(",", "").split()[1::2]]
     is_well = found.status == 0 and not found.errors and not any(it[1] for it in counts.values())
-    words = [it.split("outside=")[1].split()[0] for it in got.output.decode("utf-8", "replace").splitlines() if " outside=" in it]
+    words = [it.split("unchecked=")[1].split()[0] for it in got.output.decode("utf-8", "replace").splitlines() if " unchecked=" in it]
     differing = [it for it in lines[:-len(SECTIONS)] if not it.startswith("~")]
     fault = None if is_well else "{} {}".format(shown(found), differing[:4])
     return Compared(fault, None, counts, words)

@@ -36,15 +36,16 @@ class Line(NamedTuple):
 
 
 class Compared(NamedTuple):
-    """How many lines of each part are equal, different and outside, what differs, and how many large files have no sum on both sides."""
+    """How many lines of each part are equal, different, unchecked and given, what differs, and how many entries read bytes, how many sums and how many
+    large files are not compared, since one report does not have them."""
 
     counts: Dict[str, List[int]]
     differing: List[str]
-    large: int
+    lacks: List[int]
 
     def lines(self) -> str:
-        told = "".join("{} {} equal, {} different, {} outside\n".format(part, *self.counts[part]) for part in PARTS)
-        return told + ("large {} not compared\n".format(self.large) if self.large else "")
+        told = "".join("{} {} equal, {} different, {} unchecked, {} given\n".format(part, *self.counts[part]) for part in PARTS)
+        return told + ("not compared: data {} entries, sums {}, large {}\n".format(*self.lacks) if any(self.lacks) else "")
 
 
 def line_of(text: str) -> Line:
@@ -68,24 +69,39 @@ def agree(one: Line, other: Line) -> bool:
     return all(other.facts.get(name, value) == value for name, value in one.facts.items())
 
 
+def is_unchecked(it: Optional[Line]) -> bool:
+    return it is not None and ("unchecked" in it.facts or it.facts.get("completion") == "unseen")
+
+
+def lacking(one: Line, other: Line) -> Tuple[bool, bool, bool]:
+    """Whether the bytes of an entry, a sum and the bytes of a large file are not compared."""
+    both = (one.facts, other.facts)
+    is_read = all("data-sum" in it for it in both) or all(not it.get("data", "+").endswith("+") for it in both)
+    is_large = all(it.get("sum") == "large" for it in both) and not all("tree-sum" in it for it in both)
+    return any("data" in it or "data-sum" in it for it in both) and not is_read, ("sum" in one.facts) != ("sum" in other.facts), is_large
+
+
 def compared(report: str, kernel: str) -> Compared:
-    """Each line of either text: equal, different, or outside."""
+    """Each line of either text: equal, different, unchecked or given."""
     (ours, our_parts), (theirs, their_parts) = read_report(report), read_report(kernel)
-    counts = {part: [0, 0, 0] for part in PARTS}
-    differing, large = [], 0
+    counts = {part: [0, 0, 0, 0] for part in PARTS}
+    differing, lacks = [], [0, 0, 0]
     for subject in [*ours, *(it for it in theirs if it not in ours)]:
         one, other = ours.get(subject), theirs.get(subject)
         part = (one or other).part
-        if one and other and all(it.facts.get("sum") == "large" for it in (one, other)):
-            large += not all("tree-sum" in it.facts for it in (one, other))
-        if any(it and "outside" in it.facts for it in (one, other)):
+        if part not in our_parts or part not in their_parts:
+            continue
+        is_pair = one is not None and other is not None
+        if is_unchecked(one) or is_unchecked(other):
             counts[part][2] += 1
-        elif one and other and agree(one, other):
-            counts[part][0] += 1
-        elif part in our_parts and part in their_parts:
-            counts[part][1] += 1
-            differing += [sign + it.text for sign, it in (("- ", one), ("+ ", other)) if it]
-    return Compared(counts, differing, large)
+        elif is_pair and agree(one, other) and "1" in (one.facts.get("given"), other.facts.get("given")):
+            counts[part][3] += 1
+        else:
+            is_equal = is_pair and agree(one, other)
+            counts[part][0 if is_equal else 1] += 1
+            differing += [] if is_equal else [sign + it.text for sign, it in (("- ", one), ("+ ", other)) if it]
+            lacks = [count + lack for count, lack in zip(lacks, lacking(one, other))] if is_pair else lacks
+    return Compared(counts, differing, lacks)
 
 
 # --- Recorded traces ----------------------------------------------------------------------------------------------

@@ -33,7 +33,7 @@ class Pair:
 
     def facts(self) -> List[bytes]:
         words = [b"ring=%d" % self.source.randrange(3), b"user=%d" % self.source.randrange(9), b"res=%d" % self.source.choice((0, 4, 512, -2)), b"posted"]
-        return words + [it for often, it in ((3, b"data=3132"), (4, b"submitted=5"), (4, b"completed=8"), (9, b"outside=late")) if self.chance(often)]
+        return words + [it for often, it in ((3, self.source.choice((b"data=3132", b"data=3132+"))), (4, b"submitted=5"), (4, b"completed=8"), (9, b"unchecked=late"), (5, b"given=1"), (9, b"completion=unseen"), (4, b"data-sum=ab")) if self.chance(often)]
 
     def others(self) -> List[List[List[bytes]]]:
         """The lines of each section behind the entries, as words."""
@@ -51,7 +51,7 @@ class Pair:
         elif kind == 1 and at:
             del made[at]
         elif kind == 2:
-            made += [self.source.choice((b"op=22", b"outside=far", b"silent", b"res=4"))]
+            made += [self.source.choice((b"op=22", b"unchecked=far", b"silent", b"res=4", b"given=1", b"data=33+", b"data-sum=cd", b"sum=cd"))]
         elif kind == 3:
             made[subject:] = self.source.sample(words[subject:], len(words) - subject)
         return made

@@ -8,7 +8,7 @@ from drawing import two_reports_by_places
 from harness import EXAMPLES, Answer, Job, Outcome, Program, difference, first, read, reports_refused, shown
 
 HEADING, SECOND_HEADING, END = b"uring-report 1\n", b"uring-report 2\n", b"end\n"
-NOTHING = "".join(it + " 0 equal, 0 different, 0 outside\n" for it in ("entries", "tree", "slots", "buffers"))
+NOTHING = "".join(it + " 0 equal, 0 different, 0 unchecked, 0 given\n" for it in ("entries", "tree", "slots", "buffers"))
 ENTRY = b"0 user=7 res=4 posted\n"
 HELD = (b"slots\n", b"descriptor 3 desc=0\n", b"descriptor 4 desc=1\n", b"buffers\n")
 # How many facts a line may have, and how often a line is said beside one with so many, and the processor seconds of each, which are 0.1
@@ -29,7 +29,7 @@ def by_places(*lines: bytes) -> bytes:
 def counted(entries: int = 0, tree: int = 0, large: int = 0) -> bytes:
     """The counts where no line is different."""
     said = NOTHING.replace("entries 0", "entries {}".format(entries)).replace("tree 0", "tree {}".format(tree))
-    return (said + ("large {} not compared\n".format(large) if large else "")).encode()
+    return (said + ("not compared: data 0 entries, sums 0, large {}\n".format(large) if large else "")).encode()
 
 
 # A word more, of a name that both have.
@@ -42,19 +42,19 @@ def refusals() -> List[Tuple[str, bytes, Answer]]:
     return [
         ("a second report with no end", well + HEADING + ENTRY, reports_refused("the second has no end")),
         ("a second report that is cut in its end", well + well[:-2], reports_refused("the second has no end")),
-        ("a third report", well * 3, reports_refused("the second goes on behind its end")),
-        ("an empty line behind the end", well * 2 + b"\n", reports_refused("the second goes on behind its end")),
+        ("a third report", well * 3, reports_refused("there is text after the end of the second")),
+        ("an empty line behind the end", well * 2 + b"\n", reports_refused("there is text after the end of the second")),
         ("another result in a later line", well + report(ENTRY, b"1 user=8\n", b"0 user=7 res=5 posted\n"),
-         reports_refused("line 4 of the second says otherwise of 0")),
+         reports_refused("line 4 of the second contradicts an earlier one about 0")),
         ("a later line that tells more", well + report(ENTRY, b"0 user=7 res=4 posted op=22\n"),
-         reports_refused("line 3 of the second says otherwise of 0")),
+         reports_refused("line 3 of the second contradicts an earlier one about 0")),
         ("another size of a file", report(b"file /a size=1\n", b"file /a size=2\n") + well,
-         reports_refused("line 3 of the first says otherwise of file /a")),
+         reports_refused("line 3 of the first contradicts an earlier one about file /a")),
         ("a long subject with odd bytes", well + report(b"file /\x1b\xff" + b"x" * 150 + b" a=1\n", b"file /\x1b\xff" + b"x" * 150 + b" a=2\n"),
-         reports_refused("line 3 of the second says otherwise of file /??{}+".format("x" * 120))),
+         reports_refused("line 3 of the second contradicts an earlier one about file /??{}+".format("x" * 120))),
         ("a subject with the last visible letter and its neighbours", well + report(b"file /\x1f~\x7f a=1\n", b"file /\x1f~\x7f a=2\n"),
-         reports_refused("line 3 of the second says otherwise of file /?~?")),
-        ("a subject of 128 bytes", well + report(b"x" * 128 + b" a=1\n", b"x" * 128 + b" a=2\n"), reports_refused("line 3 of the second says otherwise of " + "x" * 128)),
+         reports_refused("line 3 of the second contradicts an earlier one about file /?~?")),
+        ("a subject of 128 bytes", well + report(b"x" * 128 + b" a=1\n", b"x" * 128 + b" a=2\n"), reports_refused("line 3 of the second contradicts an earlier one about " + "x" * 128)),
         ("nothing behind an end without a line feed", well[:-1], reports_refused("the second does not begin with uring-report 1")),
         ("a later line before an end that lacks", report(ENTRY, b"0 user=8\n") + HEADING, reports_refused("the second has no end")),
     ]
@@ -74,7 +74,7 @@ def refusals_by_places() -> List[Tuple[str, bytes, Answer]]:
         ("a place of 33 bits", well + by_places(greatest, b"4294967296 ring=0\n"), "line 3 of the second is out of order at 4294967296"),
         ("a place of many digits", well + by_places(b"1" * 200 + b" ring=0\n"), "line 2 of the second is out of order at {}+".format("1" * 128)),
         ("a second that falls and has no end", well + by_places(ten, one)[:-4], "the second has no end"),
-        ("another target of a link", well + by_places(one, b"tree\n", b"link /l to=a\n", b"link /l to=b\n"), "line 5 of the second says otherwise of link /l"),
+        ("another target of a link", well + by_places(one, b"tree\n", b"link /l to=a\n", b"link /l to=b\n"), "line 5 of the second contradicts an earlier one about link /l"),
         ("version 1 beside version 2", report(ENTRY) + well, "the first is uring-report 1, the second uring-report 2"),
         ("version 2 beside version 1", well + report(ENTRY), "the first is uring-report 2, the second uring-report 1"),
         ("another version beside one that falls", report(ENTRY) + by_places(ten, one), "line 3 of the second is out of order at 1"),

@@ -226,15 +226,15 @@ def differences(program: Program) -> List[Outcome]:
     data = pattern(20 << 20, 3)
     flipped = data[: 17 << 20] + bytes([data[17 << 20] ^ 1]) + data[(17 << 20) + 1 :]
     one, other = (Stored(len(it), [(0, it)]) for it in (data, flipped))
-    counts = "entries 0 equal, 0 different, 0 outside\ntree {}\nslots 1 equal, 0 different, 0 outside\nbuffers 0 equal, 0 different, 0 outside\n"
+    counts = "entries 0 equal, 0 different, 0 unchecked, 0 given\ntree {}\nslots 1 equal, 0 different, 0 unchecked, 0 given\nbuffers 0 equal, 0 different, 0 unchecked, 0 given\n"
     line = "{} file /00 node=1 size={} {}\n"
-    seen = line.format("-", one.size, one.facts()) + line.format("+", other.size, other.facts()) + counts.format("0 equal, 1 different, 0 outside")
-    alike = counts.format("1 equal, 0 different, 0 outside")
+    seen = line.format("-", one.size, one.facts()) + line.format("+", other.size, other.facts()) + counts.format("0 equal, 1 different, 0 unchecked, 0 given")
+    alike = counts.format("1 equal, 0 different, 0 unchecked, 0 given")
     cases = (
         ("the same file", one, "--all-sums", "--all-sums", 0, alike),
         ("a byte that differs", other, "--all-sums", "--all-sums", 4, seen),
-        ("a byte that differs, with sums alone", other, "--sums", "--sums", 0, alike + "large 1 not compared\n"),
-        ("a byte that differs, with a tree sum on one side", other, "--sums", "--all-sums", 0, alike + "large 1 not compared\n"),
+        ("a byte that differs, with sums alone", other, "--sums", "--sums", 0, alike + "not compared: data 0 entries, sums 0, large 1\n"),
+        ("a byte that differs, with a tree sum on one side", other, "--sums", "--all-sums", 0, alike + "not compared: data 0 entries, sums 0, large 1\n"),
     )
     outcomes = []
     for label, second, first_word, second_word, status, told in cases:

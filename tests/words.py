@@ -82,23 +82,27 @@ def good(program: Program, words: Words) -> List[Outcome]:
     return [Outcome("{} by {}".format(spoken(words), program.compiler), difference(got, Answer(0, read(EXAMPLE + ".report"), b"")))]
 
 
+# Of the example with sums and without them.
+TWO_SUMS = b"not compared: data 0 entries, sums 2, large 0\n"
+
+
 def counted(entries: str) -> bytes:
     """The counts of two reports of the example that differ in entries alone."""
-    return "entries {}\n{}".format(entries, "".join(it + " 1 equal, 0 different, 0 outside\n" for it in ("tree", "slots", "buffers"))).encode()
+    return "entries {}\n{}".format(entries, "".join(it + " 1 equal, 0 different, 0 unchecked, 0 given\n" for it in ("tree", "slots", "buffers"))).encode()
 
 
 def reports(program: Program) -> List[Outcome]:
     """What `diff` says of two reports, and of what is not two."""
     report, line = read(EXAMPLE + ".report"), b"0 user=7 res=4 posted data=32333435"
-    other, outside = (line.replace(b"res=4", b"res=5"), line + b" op=22 outside=late")
+    other, unchecked = (line.replace(b"res=4", b"res=5"), line + b" op=22 unchecked=late")
     alone = b"uring-report 1\nend\n"
-    none = "".join(it + " 0 equal, 0 different, 0 outside\n" for it in ("entries", "tree", "slots", "buffers")).encode()
+    none = "".join(it + " 0 equal, 0 different, 0 unchecked, 0 given\n" for it in ("entries", "tree", "slots", "buffers")).encode()
     first, second = ("the {} does not begin with uring-report 1".format(it) for it in ("first", "second"))
     cases = (
-        ("a report and the same", report * 2, Answer(0, counted("1 equal, 0 different, 0 outside"), b"")),
-        ("a report and its sums", two_reports(EXAMPLE), Answer(0, counted("1 equal, 0 different, 0 outside"), b"")),
-        ("another result", report + report.replace(line, other), Answer(4, b"- " + line + b"\n+ " + other + b"\n" + counted("0 equal, 1 different, 0 outside"), b"")),
-        ("outside", report + report.replace(line, outside), Answer(0, b"~ " + outside + b"\n" + counted("0 equal, 0 different, 1 outside"), b"")),
+        ("a report and the same", report * 2, Answer(0, counted("1 equal, 0 different, 0 unchecked, 0 given"), b"")),
+        ("a report and its sums", two_reports(EXAMPLE), Answer(0, counted("1 equal, 0 different, 0 unchecked, 0 given") + TWO_SUMS, b"")),
+        ("another result", report + report.replace(line, other), Answer(4, b"- " + line + b"\n+ " + other + b"\n" + counted("0 equal, 1 different, 0 unchecked, 0 given"), b"")),
+        ("unchecked", report + report.replace(line, unchecked), Answer(0, b"~ " + unchecked + b"\n" + counted("0 equal, 0 different, 1 unchecked, 0 given"), b"")),
         ("nothing to compare", alone + alone, Answer(0, none, b"")),
         ("one report", report, reports_refused(second)),
         ("a report with no end", report[:-4], reports_refused("the first has no line end")),

@@ -15,6 +15,7 @@ use Rattle.json_lines.specs.declared.writing.WriteFault.{WriteFault}
 use Rattle.json_lines.specs.declared.writing.WriteFault.TheVariants as write
 use Rattle.json_lines.proofs.Whole.{empty_whole, written_behind, written_empty}
 use Rattle.report_diff.specs.declared.comparing.Comparison.{Comparison}
+use Rattle.report_diff.specs.declared.comparing.Terms.{Terms}
 use Rattle.report_diff.specs.declared.comparing.DiffFault.{DiffFault}
 use Rattle.report_diff.specs.declared.comparing.DiffFault.TheVariants as diff
 use Rattle.report_diff.specs.declared.fronts.Merging.{Merging}
@@ -35,20 +36,20 @@ use Rattle.diff_stream.specs.Steps.{Begins, Begun, FrontsEnd, HoldsAll, IsOther,
 use Rattle.diff_stream.proofs.FirstLines.{first_of_lines, first_of_whole, no_whole, passed_on}
 
 -- a fault that is no reason of the texts
-pub up_to : (form : Form) (l l' r r' w w' : Option (List ℕ)) (e : CompareFault) → IsOutside e → WritesSome form l l' r r' w w' → WritesUpTo form l l' r r' w w' e
-up_to form l l' r r' w w' (Refused why) out some = absurd out
-up_to form l l' r r' w w' Memory out some = some
-up_to form l l' r r' w w' Read out some = some
-up_to form l l' r r' w w' Write out some = some
+pub up_to : (form : Form) (terms : Terms) (l l' r r' w w' : Option (List ℕ)) (e : CompareFault) → IsOutside e → WritesSome form terms l l' r r' w w' → WritesUpTo form terms l l' r r' w w' e
+up_to form terms l l' r r' w w' (Refused why) out some = absurd out
+up_to form terms l l' r r' w w' Memory out some = some
+up_to form terms l l' r r' w w' Read out some = some
+up_to form terms l l' r r' w w' Write out some = some
 
 -- a fault of what writes a text in a form
-pub up_to_write : (form : Form) (l l' r r' w w' : Option (List ℕ)) (f : WriteFault) → WritesSome form l l' r r' w w' → WritesUpTo form l l' r r' w w' (of_write f)
-up_to_write form l l' r r' w w' write.Memory some = some
-up_to_write form l l' r r' w w' write.Write some = some
+pub up_to_write : (form : Form) (terms : Terms) (l l' r r' w w' : Option (List ℕ)) (f : WriteFault) → WritesSome form terms l l' r r' w w' → WritesUpTo form terms l l' r r' w w' (of_write f)
+up_to_write form terms l l' r r' w w' write.Memory some = some
+up_to_write form terms l l' r r' w w' write.Write some = some
 
 -- nothing was written
-pub nothing_written : (form : Form) (l l' r r' w : Option (List ℕ)) → Takes l l' → Takes r r' → WritesSome form l l' r r' w w
-nothing_written form l l' r r' w first second = record {
+pub nothing_written : (form : Form) (terms : Terms) (l l' r r' w : Option (List ℕ)) → Takes l l' → Takes r r' → WritesSome form terms l l' r r' w w
+nothing_written form terms l l' r r' w first second = record {
   first = first.0;
   second = second.0;
   one = first.1;
@@ -116,17 +117,17 @@ whole_is form a b m l l1 l2 r r1 r2 w w1 all all2 at ends leaves leaves2 = recor
         ∙ ap (λ x. at.taken ++ x) none ∙ append-nil at.taken
 
 -- how they are told: refused
-pub refused_up_to : (form : Form) (a b : Side) (m : Merging) (l l1 l2 r r1 r2 w w1 : Option (List ℕ)) (all all2 : List ℕ) (it : Whole form a b m l l1 r r1 w w1 all all2)
+pub refused_up_to : (form : Form) (terms : Terms) (a b : Side) (m : Merging) (l l1 l2 r r1 r2 w w1 : Option (List ℕ)) (all all2 : List ℕ) (it : Whole form a b m l l1 r r1 w w1 all all2)
     → LeavesAll a l1 l2 all → LeavesAll b r1 r2 all2 → m.told.text.items ≡ [] → (f : DiffFault)
-    → TellsOfLines (heading ∷ it.is.one ++ lines all) (heading ∷ it.is.other ++ lines all2) f → WritesUpTo form l l2 r r2 w w1 (of_diff f)
-refused_up_to form a b m l l1 l2 r r1 r2 w w1 all all2 it leaves leaves2 none (diff.Refused why) tells = record {
+    → TellsOfLines terms (heading ∷ it.is.one ++ lines all) (heading ∷ it.is.other ++ lines all2) f → WritesUpTo form terms l l2 r r2 w w1 (of_diff f)
+refused_up_to form terms a b m l l1 l2 r r1 r2 w w1 all all2 it leaves leaves2 none (diff.Refused why) tells = record {
   first = text_of (heading ∷ it.is.one) ++ all;
   second = text_of (heading ∷ it.is.other) ++ all2;
   read = it.read l2 r2 leaves leaves2;
   refused = rw (it.first_lines, it.second_lines) tells;
   wrote = subst (λ x. Appends w w1 (written_as form x)) (sym (it.early_is none)) it.is.wrote;
 }
-refused_up_to form a b m l l1 l2 r r1 r2 w w1 all all2 it leaves leaves2 none diff.Memory tells =
+refused_up_to form terms a b m l l1 l2 r r1 r2 w w1 all all2 it leaves leaves2 none diff.Memory tells =
     let read = it.read l2 r2 leaves leaves2 in
     record {
       first = text_of (heading ∷ it.is.one) ++ all;
@@ -139,31 +140,31 @@ refused_up_to form a b m l l1 l2 r r1 r2 w w1 all all2 it leaves leaves2 none di
     }
 
 -- or compared
-differences_are : (form : Form) (a b : Side) (m : Merging) (l l1 r r1 w w1 : Option (List ℕ)) (all all2 : List ℕ) (it : Whole form a b m l l1 r r1 w w1 all all2) (comparison : Comparison)
-    → ComparesBehind it.is.taken (heading ∷ it.is.one ++ lines all) (heading ∷ it.is.other ++ lines all2) comparison
-    → differences_of_two (text_of (heading ∷ it.is.one) ++ all) (text_of (heading ∷ it.is.other) ++ all2) ≡ it.is.taken ++ comparison.text.items
-differences_are form a b m l l1 r r1 w w1 all all2 it comparison compares = rw (it.first_lines, it.second_lines) (sym compares.text)
+differences_are : (form : Form) (terms : Terms) (a b : Side) (m : Merging) (l l1 r r1 w w1 : Option (List ℕ)) (all all2 : List ℕ) (it : Whole form a b m l l1 r r1 w w1 all all2) (comparison : Comparison)
+    → ComparesBehind terms it.is.taken (heading ∷ it.is.one ++ lines all) (heading ∷ it.is.other ++ lines all2) comparison
+    → differences_of_two terms (text_of (heading ∷ it.is.one) ++ all) (text_of (heading ∷ it.is.other) ++ all2) ≡ it.is.taken ++ comparison.text.items
+differences_are form terms a b m l l1 r r1 w w1 all all2 it comparison compares = rw (it.first_lines, it.second_lines) (sym compares.text)
 
-pub compared : (form : Form) (a b : Side) (m : Merging) (l l1 l2 r r1 r2 w w1 w2 : Option (List ℕ)) (all all2 : List ℕ) (it : Whole form a b m l l1 r r1 w w1 all all2)
+pub compared : (form : Form) (terms : Terms) (a b : Side) (m : Merging) (l l1 l2 r r1 r2 w w1 w2 : Option (List ℕ)) (all all2 : List ℕ) (it : Whole form a b m l l1 r r1 w w1 all all2)
     → LeavesAll a l1 l2 all → LeavesAll b r1 r2 all2 → (comparison : Comparison)
-    → ComparesBehind it.is.taken (heading ∷ it.is.one ++ lines all) (heading ∷ it.is.other ++ lines all2) comparison
-    → Appends w1 w2 (written_as form comparison.text.items) → WritesComparison form l l2 r r2 w w2 comparison.alike
-compared form a b m l l1 l2 r r1 r2 w w1 w2 all all2 it leaves leaves2 comparison compares wrote = record {
+    → ComparesBehind terms it.is.taken (heading ∷ it.is.one ++ lines all) (heading ∷ it.is.other ++ lines all2) comparison
+    → Appends w1 w2 (written_as form comparison.text.items) → WritesComparison form terms l l2 r r2 w w2 comparison.passes
+compared form terms a b m l l1 l2 r r1 r2 w w1 w2 all all2 it leaves leaves2 comparison compares wrote = record {
   first = text_of (heading ∷ it.is.one) ++ all;
   second = text_of (heading ∷ it.is.other) ++ all2;
   read = it.read l2 r2 leaves leaves2;
   reports = rw (it.first_lines, it.second_lines) compares.reports;
   wrote = subst (Appends w w2)
-      (sym (ap (written_as form) (differences_are form a b m l l1 r r1 w w1 all all2 it comparison compares) ∙ written_behind form it.is.taken comparison.text.items it.is.whole))
+      (sym (ap (written_as form) (differences_are form terms a b m l l1 r r1 w w1 all all2 it comparison compares) ∙ written_behind form it.is.taken comparison.text.items it.is.whole))
       (Appends-trans w w1 w2 (written_as form it.is.taken) (written_as form comparison.text.items) it.is.wrote wrote);
-  decided = rw (it.first_lines, it.second_lines) compares.alike;
+  decided = rw (it.first_lines, it.second_lines) compares.passes;
 }
 
-pub part_compared : (form : Form) (a b : Side) (m : Merging) (l l1 l2 r r1 r2 w w1 w2 : Option (List ℕ)) (all all2 : List ℕ) (it : Whole form a b m l l1 r r1 w w1 all all2)
+pub part_compared : (form : Form) (terms : Terms) (a b : Side) (m : Merging) (l l1 l2 r r1 r2 w w1 w2 : Option (List ℕ)) (all all2 : List ℕ) (it : Whole form a b m l l1 r r1 w w1 all all2)
     → LeavesAll a l1 l2 all → LeavesAll b r1 r2 all2 → (comparison : Comparison) → (text : List ℕ) → text ≡ comparison.text.items
-    → ComparesBehind it.is.taken (heading ∷ it.is.one ++ lines all) (heading ∷ it.is.other ++ lines all2) comparison
-    → AppendsSome w1 w2 (written_as form text) → WritesSome form l l2 r r2 w w2
-part_compared form a b m l l1 l2 r r1 r2 w w1 w2 all all2 it leaves leaves2 comparison text same compares part =
+    → ComparesBehind terms it.is.taken (heading ∷ it.is.one ++ lines all) (heading ∷ it.is.other ++ lines all2) comparison
+    → AppendsSome w1 w2 (written_as form text) → WritesSome form terms l l2 r r2 w w2
+part_compared form terms a b m l l1 l2 r r1 r2 w w1 w2 all all2 it leaves leaves2 comparison text same compares part =
     let read = it.read l2 r2 leaves leaves2 in
     record {
       first = text_of (heading ∷ it.is.one) ++ all;
@@ -173,7 +174,7 @@ part_compared form a b m l l1 l2 r r1 r2 w w1 w2 all all2 it leaves leaves2 comp
       text = it.is.taken ++ text;
       told = inr (
         rw (it.first_lines, it.second_lines) compares.reports,
-        ap (λ x. it.is.taken ++ x) same ∙ sym (differences_are form a b m l l1 r r1 w w1 all all2 it comparison compares),
+        ap (λ x. it.is.taken ++ x) same ∙ sym (differences_are form terms a b m l l1 r r1 w w1 all all2 it comparison compares),
       );
       wrote = subst (AppendsSome w w2) (sym (written_behind form it.is.taken text it.is.whole))
           (some_behind w w1 w2 (written_as form it.is.taken) (written_as form text) it.is.wrote part);
@@ -220,32 +221,32 @@ both_whole a b l l1 l2 r r1 r2 all all2 one other leaves leaves2 = record {
   other_ended = leaves2.2;
 }
 
-pub refused_whole : (form : Form) (a b : Side) (l l1 l2 r r1 r2 w : Option (List ℕ)) (all all2 : List ℕ) → HoldsAll a l l1 → HoldsAll b r r1 → LeavesAll a l1 l2 all → LeavesAll b r1 r2 all2
-    → IsOther a ⊎ IsOther b → (f : DiffFault) → TellsOfTwo all all2 f → WritesUpTo form l l2 r r2 w w (of_diff f)
-refused_whole form a b l l1 l2 r r1 r2 w all all2 one other leaves leaves2 odd (diff.Refused why) tells = record {
+pub refused_whole : (form : Form) (terms : Terms) (a b : Side) (l l1 l2 r r1 r2 w : Option (List ℕ)) (all all2 : List ℕ) → HoldsAll a l l1 → HoldsAll b r r1 → LeavesAll a l1 l2 all → LeavesAll b r1 r2 all2
+    → IsOther a ⊎ IsOther b → (f : DiffFault) → TellsOfTwo terms all all2 f → WritesUpTo form terms l l2 r r2 w w (of_diff f)
+refused_whole form terms a b l l1 l2 r r1 r2 w all all2 one other leaves leaves2 odd (diff.Refused why) tells = record {
   first = all;
   second = all2;
   read = both_whole a b l l1 l2 r r1 r2 all all2 one other leaves leaves2;
   refused = tells;
   wrote = subst (Appends w w) (sym (ap (written_as form) (nothing_told a b l1 l2 r1 r2 all all2 odd leaves leaves2) ∙ written_empty form)) (Appends-nil w);
 }
-refused_whole form a b l l1 l2 r r1 r2 w all all2 one other leaves leaves2 odd diff.Memory tells =
-    nothing_written form l l2 r r2 w (all, whole_taken a l l1 l2 all one leaves) (all2, whole_taken b r r1 r2 all2 other leaves2)
+refused_whole form terms a b l l1 l2 r r1 r2 w all all2 one other leaves leaves2 odd diff.Memory tells =
+    nothing_written form terms l l2 r r2 w (all, whole_taken a l l1 l2 all one leaves) (all2, whole_taken b r r1 r2 all2 other leaves2)
 
-pub compared_whole : (form : Form) (l l2 r r2 w w2 : Option (List ℕ)) (all all2 : List ℕ) → ReadsBoth l l2 r r2 all all2 → (comparison : Comparison) → ComparesTwo all all2 comparison
-    → Appends w w2 (written_as form comparison.text.items) → WritesComparison form l l2 r r2 w w2 comparison.alike
-compared_whole form l l2 r r2 w w2 all all2 read comparison compares wrote = record {
+pub compared_whole : (form : Form) (terms : Terms) (l l2 r r2 w w2 : Option (List ℕ)) (all all2 : List ℕ) → ReadsBoth l l2 r r2 all all2 → (comparison : Comparison) → ComparesTwo terms all all2 comparison
+    → Appends w w2 (written_as form comparison.text.items) → WritesComparison form terms l l2 r r2 w w2 comparison.passes
+compared_whole form terms l l2 r r2 w w2 all all2 read comparison compares wrote = record {
   first = all;
   second = all2;
   read = read;
   reports = compares.reports;
   wrote = subst (λ x. Appends w w2 (written_as form x)) compares.text wrote;
-  decided = compares.alike;
+  decided = compares.passes;
 }
 
-pub part_whole : (form : Form) (l l2 r r2 w w2 : Option (List ℕ)) (all all2 : List ℕ) → ReadsBoth l l2 r r2 all all2 → (comparison : Comparison) → ComparesTwo all all2 comparison
-    → (text : List ℕ) → text ≡ comparison.text.items → AppendsSome w w2 (written_as form text) → WritesSome form l l2 r r2 w w2
-part_whole form l l2 r r2 w w2 all all2 read comparison compares text same part = record {
+pub part_whole : (form : Form) (terms : Terms) (l l2 r r2 w w2 : Option (List ℕ)) (all all2 : List ℕ) → ReadsBoth l l2 r r2 all all2 → (comparison : Comparison) → ComparesTwo terms all all2 comparison
+    → (text : List ℕ) → text ≡ comparison.text.items → AppendsSome w w2 (written_as form text) → WritesSome form terms l l2 r r2 w w2
+part_whole form terms l l2 r r2 w w2 all all2 read comparison compares text same part = record {
   first = all;
   second = all2;
   one = read.one;

@@ -10,6 +10,7 @@ use Rattle.json_lines.specs.Forms.{written_as}
 use Rattle.json_lines.specs.declared.form.Form.{Form}
 use Rattle.json_lines.proofs.Whole.{written_behind}
 use Rattle.report_diff.specs.declared.fronts.Merging.{Merging}
+use Rattle.report_diff.specs.declared.comparing.Terms.{Terms}
 use Rattle.report_diff.specs.Merging.{Awaits, IsAwaited, Merges, early_text_of_two, heading, is_feed, text_of}
 use Rattle.report_diff.proofs.EarlyText.{early_so_far}
 use Rattle.report_diff.proofs.MergeLemmas.{any_more}
@@ -153,9 +154,9 @@ remains form a b m m' l l1 r r1 w w1 at merges awaits = record {
 }
 
 -- a beginning of what the bytes tell was written
-pub some_written : (form : Form) (a b : Side) (m : Merging) (l l1 l2 r r1 r2 w w1 w2 : Option (List ℕ)) → Stands form a b m l l1 r r1 w w1 → Takes l1 l2 → Takes r1 r2 → StopsAt form m w1 w2
-    → WritesSome form l l2 r r2 w w2
-some_written form a b m l l1 l2 r r1 r2 w w1 w2 at more more2 part =
+pub some_written : (form : Form) (terms : Terms) (a b : Side) (m : Merging) (l l1 l2 r r1 r2 w w1 w2 : Option (List ℕ)) → Stands form a b m l l1 r r1 w w1 → Takes l1 l2 → Takes r1 r2 → StopsAt form m w1 w2
+    → WritesSome form terms l l2 r r2 w w2
+some_written form terms a b m l l1 l2 r r1 r2 w w1 w2 at more more2 part =
     let held = text_of (heading ∷ at.one) ++ a.lines in
     let held2 = text_of (heading ∷ at.other) ++ b.lines in
     let begins = early_so_far m at.one at.other at.taken (a.lines ++ more.0) (b.lines ++ more2.0) at.merges at.plain at.plain_other in

@@ -13,7 +13,7 @@ use crate::held::Sides;
 use crate::side::has_line;
 use byte_transfer::{Sink, Source};
 use json_lines::Form;
-use report_diff::Offer;
+use report_diff::{Offer, Terms};
 use std::alloc::Global;
 
 /// Takes the next line of the second report, where that of the first waits for it, and tells
@@ -34,10 +34,11 @@ fn turn_of_second<S: Source, W: Sink>(
         → first_line sides.old.first.lines ≡ Some line → IsAwaited sides.old.merging.from line
         → IfOk result (λ on. GoesTo form on sides.new.first sides.new.second sides.new.merging l left r
         (S.left second.new) w (W.written writer.new)) }
-    ensures err { (l left r w : Option (List ℕ))
+    ensures err { (terms : Terms) → (l left r w : Option (List ℕ))
         → Stands form sides.old.first sides.old.second sides.old.merging l left r
         (S.left second.old) w (W.written writer.old)
-        → IfErr result (λ _. WritesSome form l left r (S.left second.new) w (W.written writer.new)) }
+        → IfErr result (λ _. WritesSome form terms l left r (S.left second.new) w
+        (W.written writer.new)) }
     ensures outside { IfErr result IsOutside }
     ensures lines { result ≡ Ok true
         → passed_lines sides.new.merging ≡ passed_lines sides.old.merging + 1 }
@@ -85,10 +86,10 @@ fn turn<R: Source, S: Source, W: Sink>(
         (S.left second.old) w (W.written writer.old)
         → IfOk result (λ on. GoesTo form on sides.new.first sides.new.second sides.new.merging l
         (R.left first.new) r (S.left second.new) w (W.written writer.new)) }
-    ensures err { (l r w : Option (List ℕ))
+    ensures err { (terms : Terms) → (l r w : Option (List ℕ))
         → Stands form sides.old.first sides.old.second sides.old.merging l (R.left first.old) r
         (S.left second.old) w (W.written writer.old)
-        → IfErr result (λ _. WritesSome form l (R.left first.new) r (S.left second.new) w
+        → IfErr result (λ _. WritesSome form terms l (R.left first.new) r (S.left second.new) w
         (W.written writer.new)) }
     ensures outside { IfErr result IsOutside }
     ensures lines { result ≡ Ok true
@@ -141,10 +142,10 @@ pub(crate) fn merge<R: Source, S: Source, W: Sink>(
         (S.left second.old) w (W.written writer.old)
         → OnOk result (AtEnds form sides.new.first sides.new.second sides.new.merging l
         (R.left first.new) r (S.left second.new) w (W.written writer.new)) }
-    ensures err { (l r w : Option (List ℕ))
+    ensures err { (terms : Terms) → (l r w : Option (List ℕ))
         → Stands form sides.old.first sides.old.second sides.old.merging l (R.left first.old) r
         (S.left second.old) w (W.written writer.old)
-        → IfErr result (λ _. WritesSome form l (R.left first.new) r (S.left second.new) w
+        → IfErr result (λ _. WritesSome form terms l (R.left first.new) r (S.left second.new) w
         (W.written writer.new)) }
     ensures outside { IfErr result IsOutside }
     ensures taken { Takes (R.left first.old) (R.left first.new)

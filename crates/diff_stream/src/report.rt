@@ -12,12 +12,12 @@ use crate::merge::merge;
 use crate::side::{rest_of, write_found};
 use byte_transfer::{Sink, Source};
 use json_lines::{Form, write_as};
-use report_diff::{HEADING, Merging, compare_two};
+use report_diff::{HEADING, Merging, Terms, compare_two};
 use std::alloc::{AllocError, Global};
 use text_lines::TextLines;
 
 /// Compares two reports that the readers have left, writes where they differ, in the form that is
-/// asked for, and tells whether no line does.
+/// asked for, and tells whether they pass.
 ///
 /// Where both have version 2, the entries that come first in both are compared as they are read:
 /// what is told of one is written before a reader is asked for more bytes. Entries that only the
@@ -33,13 +33,14 @@ pub fn write_differences<R: Source, S: Source, W: Sink>(
     second: &mut S,
     writer: &mut W,
     form: Form,
+    terms: Terms,
 ) -> Result<bool, CompareFault>
     requires first { R.failures first.old < 2 ^ 64 - 1 }
     requires second { S.failures second.old < 2 ^ 64 - 1 }
     requires writer { W.failures writer.old < 2 ^ 64 - 1 }
-    ensures ok { IfOk result (WritesComparison form (R.left first.old) (R.left first.new)
+    ensures ok { IfOk result (WritesComparison form terms (R.left first.old) (R.left first.new)
         (S.left second.old) (S.left second.new) (W.written writer.old) (W.written writer.new)) }
-    ensures err { IfErr result (WritesUpTo form (R.left first.old) (R.left first.new)
+    ensures err { IfErr result (WritesUpTo form terms (R.left first.old) (R.left first.new)
         (S.left second.old) (S.left second.new) (W.written writer.old) (W.written writer.new)) }
     ensures taken { Takes (R.left first.old) (R.left first.new)
         × Takes (S.left second.old) (S.left second.new) }
@@ -47,15 +48,15 @@ pub fn write_differences<R: Source, S: Source, W: Sink>(
 {
     let mut sides = started(alloc)?;
     if !begins(alloc, &mut sides.first, first)? {
-        return compare_whole(alloc, sides, first, second, writer, form);
+        return compare_whole(alloc, sides, first, second, writer, form, terms);
     }
     if !begins(alloc, &mut sides.second, second)? {
-        return compare_whole(alloc, sides, first, second, writer, form);
+        return compare_whole(alloc, sides, first, second, writer, form, terms);
     }
     sides.first.lines.pass();
     sides.second.lines.pass();
     merge(alloc, &mut sides, first, second, writer, form)?;
-    compare_rest(alloc, sides, first, second, writer, form)
+    compare_rest(alloc, sides, first, second, writer, form, terms)
 }
 
 /// Nothing was read.
@@ -106,6 +107,7 @@ fn compare_rest<R: Source, S: Source, W: Sink>(
     second: &mut S,
     writer: &mut W,
     form: Form,
+    terms: Terms,
 ) -> Result<bool, CompareFault>
     requires first { R.failures first.old < 2 ^ 64 - 1 }
     requires second { S.failures second.old < 2 ^ 64 - 1 }
@@ -113,12 +115,12 @@ fn compare_rest<R: Source, S: Source, W: Sink>(
     ensures ok { (l r w : Option (List ℕ))
         → AtEnds form sides.first sides.second sides.merging l (R.left first.old) r
         (S.left second.old) w (W.written writer.old)
-        → IfOk result (WritesComparison form l (R.left first.new) r (S.left second.new) w
+        → IfOk result (WritesComparison form terms l (R.left first.new) r (S.left second.new) w
         (W.written writer.new)) }
     ensures err { (l r w : Option (List ℕ))
         → AtEnds form sides.first sides.second sides.merging l (R.left first.old) r
         (S.left second.old) w (W.written writer.old)
-        → IfErr result (WritesUpTo form l (R.left first.new) r (S.left second.new) w
+        → IfErr result (WritesUpTo form terms l (R.left first.new) r (S.left second.new) w
         (W.written writer.new)) }
     ensures taken { Takes (R.left first.old) (R.left first.new)
         × Takes (S.left second.old) (S.left second.new) }
@@ -128,9 +130,9 @@ fn compare_rest<R: Source, S: Source, W: Sink>(
     write_found(alloc, &mut merging, writer, form)?;
     let one = rest_of(alloc, sides.first, first)?;
     let other = rest_of(alloc, sides.second, second)?;
-    let comparison = merging.finish(alloc, one.as_slice(), other.as_slice())?;
+    let comparison = merging.finish(alloc, terms, one.as_slice(), other.as_slice())?;
     write_as(alloc, comparison.text.as_slice(), writer, form)?;
-    Ok(comparison.alike)
+    Ok(comparison.passes)
 }
 
 /// Compares two texts of which one does not begin as a report of version 2.
@@ -141,18 +143,19 @@ fn compare_whole<R: Source, S: Source, W: Sink>(
     second: &mut S,
     writer: &mut W,
     form: Form,
+    terms: Terms,
 ) -> Result<bool, CompareFault>
     requires first { R.failures first.old < 2 ^ 64 - 1 }
     requires second { S.failures second.old < 2 ^ 64 - 1 }
     requires writer { W.failures writer.old < 2 ^ 64 - 1 }
     ensures ok { (l r : Option (List ℕ)) → HoldsAll sides.first l (R.left first.old)
         → HoldsAll sides.second r (S.left second.old)
-        → IfOk result (WritesComparison form l (R.left first.new) r (S.left second.new)
+        → IfOk result (WritesComparison form terms l (R.left first.new) r (S.left second.new)
         (W.written writer.old) (W.written writer.new)) }
     ensures err { (l r : Option (List ℕ)) → HoldsAll sides.first l (R.left first.old)
         → HoldsAll sides.second r (S.left second.old)
         → IsOther sides.first ⊎ IsOther sides.second
-        → IfErr result (WritesUpTo form l (R.left first.new) r (S.left second.new)
+        → IfErr result (WritesUpTo form terms l (R.left first.new) r (S.left second.new)
         (W.written writer.old) (W.written writer.new)) }
     ensures taken { Takes (R.left first.old) (R.left first.new)
         × Takes (S.left second.old) (S.left second.new) }
@@ -160,7 +163,7 @@ fn compare_whole<R: Source, S: Source, W: Sink>(
 {
     let one = rest_of(alloc, sides.first, first)?;
     let other = rest_of(alloc, sides.second, second)?;
-    let comparison = compare_two(alloc, one.as_slice(), other.as_slice())?;
+    let comparison = compare_two(alloc, terms, one.as_slice(), other.as_slice())?;
     write_as(alloc, comparison.text.as_slice(), writer, form)?;
-    Ok(comparison.alike)
+    Ok(comparison.passes)
 }

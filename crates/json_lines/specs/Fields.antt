@@ -31,8 +31,7 @@ is_number (b ∷ more) = if b == 45 then is_natural more else is_natural (b ∷ 
 abbrev pub number_keys : List (List ℕ)
 number_keys =
     codes "place" ∷ codes "ring" ∷ codes "slot" ∷ codes "number" ∷ codes "node" ∷ codes "desc" ∷ codes "len" ∷ codes "res" ∷ codes "round" ∷
-    codes "after" ∷ codes "version" ∷ codes "rings" ∷ codes "rounds" ∷ codes "widest" ∷ codes "longest" ∷ codes "span" ∷ codes "equal" ∷
-    codes "different" ∷ codes "outside" ∷ codes "large" ∷ []
+    codes "after" ∷ codes "version" ∷ codes "rings" ∷ codes "rounds" ∷ codes "widest" ∷ codes "longest" ∷ codes "span" ∷ []
 
 abbrev pub is_number_key : List ℕ → Bool
 is_number_key key = list_any (bytes_eq key) number_keys

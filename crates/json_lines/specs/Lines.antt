@@ -41,9 +41,23 @@ abbrev pub facts_json : List (List ℕ) → List ℕ
 facts_json [] = []
 facts_json (word ∷ more) = if is_on word then on_json word more else fact_json word ++ facts_json more
 
+-- The keys of what a comparison counts. A count is a number, and a comma may stand behind it.
+abbrev pub counted_keys : List (List ℕ)
+counted_keys =
+    codes "equal" ∷ codes "different" ∷ codes "unchecked" ∷ codes "given" ∷ codes "data" ∷ codes "sums" ∷ codes "large" ∷ []
+
+abbrev pub is_counted : List ℕ → Bool
+is_counted key = list_any (bytes_eq key) counted_keys
+
+unfoldable pub count_value : List ℕ → List ℕ
+count_value word = let digits = before_first (λ b. b == 44) word in if is_natural digits then digits else json_string word
+
+unfoldable pub count_json : List ℕ → List ℕ → List ℕ
+count_json key word = codes "," ++ json_string key ++ codes ":" ++ count_value word
+
 -- A word at its place in a line is the value of a key, or none where the key is empty.
 unfoldable pub keyed_word : List ℕ → List ℕ → List ℕ
-keyed_word key word = if length key == 0 then [] else json_field key word
+keyed_word key word = if length key == 0 then [] else if is_counted key then count_json key word else json_field key word
 
 -- Words that have their keys, and the facts behind them.
 abbrev pub keyed_json : List (List ℕ) → List (List ℕ) → List ℕ
@@ -55,17 +69,21 @@ keyed_json (key ∷ keys) (word ∷ words) = keyed_word key word ++ keyed_json k
 abbrev pub count_words : List (List ℕ)
 count_words =
     codes "rounds" ∷ codes "widest" ∷ codes "mean" ∷ codes "longest" ∷ codes "places" ∷ codes "pairs" ∷ codes "span" ∷ codes "parallelism" ∷
-    codes "bytes" ∷ codes "span-bytes" ∷ codes "parallelism-bytes" ∷ codes "large" ∷ []
+    codes "bytes" ∷ codes "span-bytes" ∷ codes "parallelism-bytes" ∷ []
 
 abbrev pub is_count : List ℕ → Bool
 is_count word = list_any (bytes_eq word) count_words
 
--- The lines that say how many lines of a section are equal, different and outside.
+-- The lines that say how many lines of a section are equal, different, unchecked and given.
 abbrev pub section_words : List (List ℕ)
 section_words = codes "entries" ∷ codes "tree" ∷ codes "slots" ∷ codes "buffers" ∷ []
 
 abbrev pub is_section : List ℕ → Bool
 is_section word = list_any (bytes_eq word) section_words
+
+-- The line of what is not compared.
+abbrev pub is_lack : List ℕ → Bool
+is_lack word = bytes_eq word (codes "not")
 
 -- The headings, with the version of the form.
 abbrev pub heading_words : List (List ℕ)
@@ -78,7 +96,8 @@ is_heading word = list_any (bytes_eq word) heading_words
 unfoldable pub summary_keys : List ℕ → List (List ℕ)
 summary_keys word =
     if bytes_eq word (codes "ok") then codes "places" ∷ [] ∷ codes "rings" ∷ [] ∷ []
-    else if is_section word then codes "equal" ∷ [] ∷ codes "different" ∷ [] ∷ codes "outside" ∷ [] ∷ []
+    else if is_section word then codes "equal" ∷ [] ∷ codes "different" ∷ [] ∷ codes "unchecked" ∷ [] ∷ codes "given" ∷ [] ∷ []
+    else if is_lack word then [] ∷ [] ∷ codes "data" ∷ [] ∷ [] ∷ codes "sums" ∷ [] ∷ codes "large" ∷ []
     else if is_count word then word ∷ [] ∷ [] ∷ codes "place" ∷ []
     else []
 
@@ -106,11 +125,14 @@ place_kind (fact ∷ more) = fact_kind (fact_name fact)
 unfoldable pub kind_json : List ℕ → List ℕ
 kind_json kind = codes "\"kind\":" ++ json_string kind
 
+unfoldable pub word_kind : List ℕ → List ℕ
+word_kind word = if is_lack word then codes "not compared" else word
+
 unfoldable pub fields_json : List (List ℕ) → List ℕ
 fields_json [] = kind_json []
 fields_json (word ∷ more) =
     if is_natural word then kind_json (place_kind more) ++ json_field (codes "place") word ++ facts_json more
-    else kind_json word ++ keyed_json (keys_of word) more
+    else kind_json (word_kind word) ++ keyed_json (keys_of word) more
 
 -- A line of differences has a sign before the line that it tells.
 abbrev pub is_sign : List ℕ → Bool

@@ -121,10 +121,6 @@ fn is_number_key(key: &[u8]) -> bool
         || key == b"widest".as_slice()
         || key == b"longest".as_slice()
         || key == b"span".as_slice()
-        || key == b"equal".as_slice()
-        || key == b"different".as_slice()
-        || key == b"outside".as_slice()
-        || key == b"large".as_slice()
 }
 
 /// A value of a key: a number or a string.

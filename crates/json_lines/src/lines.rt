@@ -2,8 +2,9 @@
 ghost use Rattle.std.specs.Prelude.{◌≡◌, ◌==◌, ◌++◌, ◌≤◌, IfOk, List, OnOk, codes, drop, length, ℕ};
 ghost use Rattle.std.specs.List.{flat_map, position_or_len};
 ghost use Rattle.json_lines.specs.Fields.{json_string};
-ghost use Rattle.json_lines.specs.Lines.{fact_json, facts_json, fields_json, is_count, is_heading};
-ghost use Rattle.json_lines.specs.Lines.{is_on, is_section, is_sign, json_line, keyed_json};
+ghost use Rattle.json_lines.specs.Lines.{count_json, count_value, fact_json, facts_json, fields_json};
+ghost use Rattle.json_lines.specs.Lines.{is_count, is_counted, is_heading, is_lack, is_on, is_section};
+ghost use Rattle.json_lines.specs.Lines.{is_sign, json_line, keyed_json, word_kind};
 ghost use Rattle.json_lines.specs.Lines.{keyed_word, keys_of, kind_json, on_json, place_kind};
 ghost use Rattle.json_lines.specs.Lines.{fact_kind, fact_name, spaced, summary_keys, texts, told_json, words};
 
@@ -115,7 +116,47 @@ fn push_keyed_word(text: &mut Vec<u8>, key: &[u8], word: &[u8]) -> Result<(), Al
     if key.is_empty() {
         return Ok(());
     }
+    if is_counted(key) {
+        return push_count(text, key, word);
+    }
     push_field(text, key, word)
+}
+
+/// Whether a key is of what a comparison counts.
+fn is_counted(key: &[u8]) -> bool
+    ensures { result ≡ is_counted key.now }
+{
+    key == b"equal".as_slice()
+        || key == b"different".as_slice()
+        || key == b"unchecked".as_slice()
+        || key == b"given".as_slice()
+        || key == b"data".as_slice()
+        || key == b"sums".as_slice()
+        || key == b"large".as_slice()
+}
+
+/// A count.
+#[tactic(auto, unfolding(crate::specs::Lines::count_json))]
+fn push_count(text: &mut Vec<u8>, key: &[u8], word: &[u8]) -> Result<(), AllocError>
+    ensures { OnOk result (text.new.items ≡ text.old.items ++ count_json key.now word.now) }
+{
+    push_bytes(text, b",")?;
+    push_string(text, key)?;
+    push_bytes(text, b":")?;
+    push_count_value(text, word)
+}
+
+/// Its value, behind which a comma may stand.
+#[tactic(auto, unfolding(crate::specs::Lines::count_value))]
+fn push_count_value(text: &mut Vec<u8>, word: &[u8]) -> Result<(), AllocError>
+    ensures { OnOk result (text.new.items ≡ text.old.items ++ count_value word.now) }
+{
+    let digits = &word[..first_place(word, b',')];
+    if is_natural(digits) {
+        push_bytes(text, digits)
+    } else {
+        push_string(text, word)
+    }
 }
 
 /// Words that have their keys, and the facts behind them.
@@ -144,7 +185,6 @@ fn is_count(word: &[u8]) -> bool
         || word == b"bytes".as_slice()
         || word == b"span-bytes".as_slice()
         || word == b"parallelism-bytes".as_slice()
-        || word == b"large".as_slice()
 }
 
 fn is_section(word: &[u8]) -> bool
@@ -154,6 +194,13 @@ fn is_section(word: &[u8]) -> bool
         || word == b"tree".as_slice()
         || word == b"slots".as_slice()
         || word == b"buffers".as_slice()
+}
+
+/// Whether a line is that of what is not compared.
+fn is_lack(word: &[u8]) -> bool
+    ensures { result ≡ is_lack word.now }
+{
+    word == b"not".as_slice()
 }
 
 fn is_heading(word: &[u8]) -> bool
@@ -198,7 +245,22 @@ fn push_summary(text: &mut Vec<u8>, word: &[u8], more: &[&[u8]]) -> Result<(), A
     } else if is_section(word) {
         push_words(
             text,
-            &[b"equal", b"", b"different", b"", b"outside", b""],
+            &[
+                b"equal",
+                b"",
+                b"different",
+                b"",
+                b"unchecked",
+                b"",
+                b"given",
+                b"",
+            ],
+            more,
+        )
+    } else if is_lack(word) {
+        push_words(
+            text,
+            &[b"", b"", b"data", b"", b"", b"sums", b"", b"large"],
             more,
         )
     } else if is_count(word) {
@@ -246,6 +308,14 @@ fn push_kind(text: &mut Vec<u8>, kind: &[u8]) -> Result<(), AllocError>
     push_string(text, kind)
 }
 
+/// The kind of a line that begins with this word.
+#[tactic(auto, unfolding(crate::specs::Lines::word_kind))]
+fn word_kind(word: &[u8]) -> &[u8]
+    ensures { result.now ≡ word_kind word.now }
+{
+    if is_lack(word) { b"not compared" } else { word }
+}
+
 /// The fields of a line.
 #[tactic(auto, unfolding(crate::specs::Lines::fields_json))]
 fn push_fields(text: &mut Vec<u8>, words: &[&[u8]]) -> Result<(), AllocError>
@@ -260,7 +330,7 @@ fn push_fields(text: &mut Vec<u8>, words: &[&[u8]]) -> Result<(), AllocError>
         push_field(text, b"place", word)?;
         push_facts(text, more)
     } else {
-        push_kind(text, word)?;
+        push_kind(text, word_kind(word))?;
         push_more(text, word, more)
     }
 }

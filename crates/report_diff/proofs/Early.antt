@@ -20,10 +20,10 @@ use Rattle.report_diff.specs.Places.{is_entry, line_place}
 use Rattle.report_diff.proofs.Apart.{none_off, off_from}
 
 -- a first element passes, and so do those behind it
-first_passes : (test : List ℕ → Bool) (x : List ℕ) (xs : List (List ℕ)) → list_all test (x ∷ xs) ≡ true → test x ≡ true
+pub first_passes : (test : List ℕ → Bool) (x : List ℕ) (xs : List (List ℕ)) → list_all test (x ∷ xs) ≡ true → test x ≡ true
 first_passes test x xs all = grind (arith, all)
 
-others_pass : (test : List ℕ → Bool) (x : List ℕ) (xs : List (List ℕ)) → list_all test (x ∷ xs) ≡ true → list_all test xs ≡ true
+pub others_pass : (test : List ℕ → Bool) (x : List ℕ) (xs : List (List ℕ)) → list_all test (x ∷ xs) ≡ true → list_all test xs ≡ true
 others_pass test x xs all = grind (arith, all)
 
 -- what a front reaches, a longer one reaches
@@ -41,7 +41,7 @@ place_below : (next : ℕ) (place : Option ℕ) → is_place_below next place �
 place_below next None below = absurd (cc)
 place_below next (Some p) below = (p, refl, leb-false next p (grind (arith, below)))
 
-entry_below : (next : ℕ) (line : List ℕ) → is_below next line ≡ true → is_entry (line_kind line) ≡ true
+pub entry_below : (next : ℕ) (line : List ℕ) → is_below next line ≡ true → is_entry (line_kind line) ≡ true
 unfolding is_below
 entry_below next line below = grind (arith, below)
 
@@ -83,7 +83,7 @@ entry_section Descriptor entry = absurd (cc)
 entry_section Buffer entry = absurd (cc)
 
 beside_more : (front longer : List (List ℕ)) (line : List ℕ) (other : Option (List ℕ))
-    → found_beside longer Entries line other ≡ found_beside front Entries line other
+    → found_beside None longer Entries line other ≡ found_beside None front Entries line other
 unfolding found_lacking has_section
 beside_more front longer line None = refl
 beside_more front longer line (Some other) = refl
@@ -97,14 +97,14 @@ about_more front more about none = find-append (λ l. bytes_eq (subject l) about
     or_none (Some l) = refl
 
 entry_more : (front more : List (List ℕ)) (x : List ℕ) → is_entry (line_kind x) ≡ true → line_about more (subject x) ≡ None
-    → of_first (front ++ more) x ≡ of_first front x
+    → of_first None (front ++ more) x ≡ of_first None front x
 unfolding of_first
 entry_more front more x entry none =
     rw (entry_section (line_kind x) entry, about_more front more (subject x) none) (beside_more front (front ++ more) x (line_about front (subject x)))
 
 -- what is found of entries below a place stays when lines from there on come
 pub of_first_more : (front more : List (List ℕ)) (text : List (List ℕ)) (next : ℕ) → list_all (is_below next) text ≡ true → list_all (is_from next) more ≡ true
-    → flat_map (of_first (front ++ more)) text ≡ flat_map (of_first front) text
+    → flat_map (of_first None (front ++ more)) text ≡ flat_map (of_first None front) text
 of_first_more front more [] next below from = refl
 of_first_more front more (x ∷ text) next below from =
     let here = first_passes (is_below next) x text below in
@@ -114,41 +114,41 @@ of_first_more front more (x ∷ text) next below from =
     ) refl
 
 -- the elements from the front on that pass a test, behind some that all pass
-while_behind : (test : List ℕ → Bool) (xs more : List (List ℕ)) → list_all test xs ≡ true → take_while test (xs ++ more) ≡ xs ++ take_while test more
+pub while_behind : (test : List ℕ → Bool) (xs more : List (List ℕ)) → list_all test xs ≡ true → take_while test (xs ++ more) ≡ xs ++ take_while test more
 while_behind test [] more all = refl
 while_behind test (x ∷ xs) more all =
     take_while-cons test x (xs ++ more) ∙ rw (first_passes test x xs all) (ap (λ rest. x ∷ rest) (while_behind test xs more (others_pass test x xs all)))
 
-while_all : (test : List ℕ → Bool) (xs : List (List ℕ)) → list_all test xs ≡ true → take_while test xs ≡ xs
+pub while_all : (test : List ℕ → Bool) (xs : List (List ℕ)) → list_all test xs ≡ true → take_while test xs ≡ xs
 while_all test xs all = ap (λ all. take_while test all) (sym (append-nil xs)) ∙ while_behind test xs [] all ∙ append-nil xs
 
-while_stop : (test : List ℕ → Bool) (xs : List (List ℕ)) (a : List ℕ) (rest : List (List ℕ)) → list_all test xs ≡ true → test a ≡ false
+pub while_stop : (test : List ℕ → Bool) (xs : List (List ℕ)) (a : List ℕ) (rest : List (List ℕ)) → list_all test xs ≡ true → test a ≡ false
     → take_while test (xs ++ a ∷ rest) ≡ xs
 while_stop test xs a rest all stops = while_behind test xs (a ∷ rest) all ∙ rw (take_while-cons test a rest, stops) (append-nil xs)
 
 -- where the second reaches all of the first, more of the second changes nothing
 pub early_all : (first second more : List (List ℕ)) (next : ℕ) → list_all (reaches second) first ≡ true → list_all (is_below next) first ≡ true
-    → list_all (is_from next) more ≡ true → early first (second ++ more) ≡ flat_map (of_first second) first
+    → list_all (is_from next) more ≡ true → early first (second ++ more) ≡ flat_map (of_first None second) first
 unfolding early
 early_all first second more next all below from =
     rw (while_all (reaches (second ++ more)) first (all_reach_more second more first all)) (of_first_more second more first next below from)
 
 -- nor does more of the first behind a line that the second does not reach
 pub early_stop : (first second rest : List (List ℕ)) (a : List ℕ) → list_all (reaches second) first ≡ true → reaches second a ≡ false
-    → early (first ++ a ∷ rest) second ≡ flat_map (of_first second) first
+    → early (first ++ a ∷ rest) second ≡ flat_map (of_first None second) first
 unfolding early
 early_stop first second rest a all stops = rw (while_stop (reaches second) first a rest all stops) refl
 
 -- what is found of two fronts is found first when both go on
 pub early_begins : (first more second back : List (List ℕ)) (next : ℕ) → list_all (reaches second) first ≡ true → list_all (is_below next) first ≡ true
-    → list_all (is_from next) back ≡ true → (rest : List Found) × (early (first ++ more) (second ++ back) ≡ flat_map (of_first second) first ++ rest)
+    → list_all (is_from next) back ≡ true → (rest : List Found) × (early (first ++ more) (second ++ back) ≡ flat_map (of_first None second) first ++ rest)
 unfolding early
 early_begins first more second back next all below from =
     let behind = take_while (reaches (second ++ back)) more in (
-      flat_map (of_first (second ++ back)) behind,
+      flat_map (of_first None (second ++ back)) behind,
       rw (
         while_behind (reaches (second ++ back)) first more (all_reach_more second back first all),
-        flat_map-append (of_first (second ++ back)) first behind,
+        flat_map-append (of_first None (second ++ back)) first behind,
         of_first_more second back first next below from,
       ) refl,
     )

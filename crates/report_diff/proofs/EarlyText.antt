@@ -1,5 +1,5 @@
 -- What is told early of two texts, by the entries of both that were passed.
-use Rattle.std.proofs.Common.{◌≡◌, ◌+◌, ◌-◌, ◌≤◌, ◌⊎◌, ◌==◌, ℕ, true, false, List, [], ◌∷◌, ◌++◌, inl, inr, length, refl, ap, subst, ◌∙◌, arith}
+use Rattle.std.proofs.Common.{◌≡◌, ◌+◌, ◌-◌, ◌≤◌, ◌⊎◌, ◌==◌, ℕ, true, false, List, [], ◌∷◌, ◌++◌, None, inl, inr, length, refl, ap, subst, ◌∙◌, arith}
 use Rattle.std.specs.List.{flat_map, list_any}
 use Rattle.std.proofs.Math.Seq.{take-append-add}
 use Rattle.std.proofs.lemmas.Bool.{cases_Bool}
@@ -38,7 +38,7 @@ early_so_far m one other taken rest rest2 merges plain plain2 =
     let begins = early_begins one (front_behind (heading ∷ one) (whole_lines rest)) other (front_behind (heading ∷ other) (whole_lines rest2)) m.second.next
     merges.reached merges.below_first (front_from (whole_lines rest2) (heading ∷ other) m.second.next merges.is_second.rises) in (
       found_text begins.0,
-      text_is m one other taken rest rest2 merges plain plain2 ∙ ap found_text begins.1 ∙ flat_map-append (λ (f : Found). f.text) (flat_map (of_first other) one) begins.0
+      text_is m one other taken rest rest2 merges plain plain2 ∙ ap found_text begins.1 ∙ flat_map-append (λ (f : Found). f.text) (flat_map (of_first None other) one) begins.0
           ∙ ap (λ x. x ++ found_text begins.0) merges.text,
     )
 
@@ -75,10 +75,10 @@ pub early_second : (m : Merging) (one other : List (List ℕ)) (taken rest rest2
     → early_text_of_two (text_of (heading ∷ one) ++ rest) (text_of (heading ∷ other) ++ rest2) ≡ taken ++ m.told.text.items
 early_second m one other taken rest rest2 merges plain plain2 ends level line more is awaited =
     let none = no_more other (whole_lines rest2) ends in
-    let last : early one other ≡ flat_map (of_first other) one =
-    subst (λ x. early one x ≡ flat_map (of_first other) one) (append-nil other) (early_all one other [] m.second.next merges.reached merges.below_first refl) in
+    let last : early one other ≡ flat_map (of_first None other) one =
+    subst (λ x. early one x ≡ flat_map (of_first None other) one) (append-nil other) (early_all one other [] m.second.next merges.reached merges.below_first refl) in
     let far = not_reached other line m.second.next awaited.place merges.below_second awaited.place_is (omega (arith, level, awaited.from_is)) in
-    let stops : early (one ++ front_behind (heading ∷ one) (line ∷ more)) other ≡ flat_map (of_first other) one =
+    let stops : early (one ++ front_behind (heading ∷ one) (line ∷ more)) other ≡ flat_map (of_first None other) one =
     elim (cases_Bool (goes_on (heading ∷ one) line)) [
       | inl on ↦ rw (head_on one line more on) (early_stop one other (front_behind (heading ∷ (one ++ line ∷ [])) more) line merges.reached far)
       | inr not ↦ rw (no_more one (line ∷ more) (inr (line, more, refl, not)), append-nil one) last

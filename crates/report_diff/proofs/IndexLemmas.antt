@@ -27,7 +27,7 @@ index_known index text line first is there =
 pub index_new : (index : Index) (known : Table) (lines : Vec (Bor (List ℕ)) Global) (line : Bor (List ℕ)) (text : List (List ℕ)) → IsIndex index text
     → None ≡ line_about text (subject line.now) → (about : List ℕ) → about ≡ subject line.now
     → ((q : List ℕ) → get_by (λ k. slice_cmp nat_cmp q k.now) known ≡ cond (bytes_eq about q) (Some line) (get_by (λ k. slice_cmp nat_cmp q k.now) index.known))
-    → lines.items ≡ index.lines.items ++ line ∷ [] → IsIndex (record { known = known; lines = lines }) (text ++ line.now ∷ [])
+    → lines.items ≡ index.lines.items ++ line ∷ [] → IsIndex (record { known = known; lines = lines; end = index.end }) (text ++ line.now ∷ [])
 index_new index known lines line text is none about same updates pushed =
     let new : is_some (line_about text (subject line.now)) ≡ false = ap is_some (sym none) in
     record {

@@ -15,5 +15,7 @@ pub mod Early
 pub mod SaysLemmas
 pub mod MergeLemmas
 pub mod FinishLemmas
+pub mod CutLemmas
+pub mod AddLemmas
 pub mod EarlyText
 pub mod ToldLines

@@ -15,12 +15,12 @@ use Rattle.std.proofs.lemmas.Slice.Eq.{bytes_eq-Decides}
 use Rattle.report_diff.specs.declared.lines.Kind.TheVariants.{Heading}
 use Rattle.report_diff.specs.declared.lines.Section.TheVariants.{Entries}
 use Rattle.report_diff.specs.declared.fronts.Merging.{Merging}
-use Rattle.report_diff.specs.Differences.{Found, found_lacking, found_lone, found_pair, has_section, minus, of_first}
+use Rattle.report_diff.specs.Differences.{Found, found_lacking, found_lone, found_pair, has_section, is_past, is_unchecked, lone_outcome, minus, of_first}
 use Rattle.std.specs.Borrow.{Bor}
 use Rattle.std.proofs.lemmas.List.Splits.{slice_split_at}
 use Rattle.std.proofs.Math.Seq.{take-append_seam}
 use Rattle.report_diff.specs.Lines.{first_words, first_behind, kind_of, line_about, line_kind, lines, subject, texts}
-use Rattle.report_diff.specs.Merging.{Awaits, AwaitsText, further, heading, is_below, is_feed, is_from, is_place_below, order_behind, text_of}
+use Rattle.report_diff.specs.Merging.{Awaits, AwaitsText, Covers, further, heading, is_below, is_feed, is_from, is_place_below, order_behind, text_of}
 use Rattle.report_diff.specs.Places.{RisesFrom, falls, is_entry, line_place, place_of}
 use Rattle.report_diff.specs.Repeats.{otherwise, says_otherwise}
 use Rattle.report_diff.proofs.Apart.{about_off, heading_apart, none_off, off}
@@ -98,18 +98,37 @@ any_more text line none not = rw (list_any-append, none, not) refl
 pub found_more : (f : List ℕ → List Found) (text : List (List ℕ)) (line : List ℕ) → flat_map f (text ++ line ∷ []) ≡ flat_map f text ++ f line
 found_more f text line = flat_map-append f text (line ∷ []) ∙ ap (λ rest. flat_map f text ++ rest) (flat_map-cons f line [] ∙ append-nil (f line))
 
-pub of_first_lone : (text : List (List ℕ)) (a : List ℕ) → is_entry (line_kind a) ≡ true → off (subject a) text ≡ true → of_first text a ≡ found_lone minus Entries a
+pub of_first_lone : (end : Option ℕ) (text : List (List ℕ)) (a : List ℕ) → is_entry (line_kind a) ≡ true → off (subject a) text ≡ true
+    → of_first end text a ≡ found_lone end minus Entries a
 unfolding of_first found_lacking has_section
-of_first_lone text a entry out = rw (in_entries (line_kind a) entry, none_off (subject a) text out) refl
+of_first_lone end text a entry out = rw (in_entries (line_kind a) entry, none_off (subject a) text out) refl
+
+-- an entry that the second reaches is not behind its end
+pub covers_less : (end : Option ℕ) (m n : ℕ) → m ≤ n → Covers n end → Covers m end
+covers_less None m n le covers = covers
+covers_less (Some end) m n le covers = omega arith
+
+not_past : (end : Option ℕ) (a : List ℕ) (next place : ℕ) → Covers next end → line_place a ≡ Some place → place < next → is_past end a ≡ false
+unfolding is_past
+not_past None a next place covers is lt = refl
+not_past (Some end) a next place covers is lt = rw is (lt-leb end place (omega arith))
+
+pub lone_within : (end : Option ℕ) (a : List ℕ) (next place : ℕ) → Covers next end → line_place a ≡ Some place → place < next
+    → found_lone end minus Entries a ≡ found_lone None minus Entries a
+unfolding lone_outcome is_past
+lone_within end a next place covers is lt = rw (same end (not_past end a next place covers is lt)) refl
+  where
+    same : (end : Option ℕ) → is_past end a ≡ false → lone_outcome end a ≡ lone_outcome None a
+    same end not = rw not refl
 
 there : (back : List (List ℕ)) (a b : List ℕ) → subject b ≡ subject a → line_about (b ∷ back) (subject a) ≡ Some b
 unfolding line_about
 there back a b same = rw (same, (bytes_eq-Decides (subject a) (subject a)).1 refl) refl
 
-pub of_first_pair : (front back : List (List ℕ)) (a b : List ℕ) → is_entry (line_kind a) ≡ true → subject b ≡ subject a → off (subject a) front ≡ true
-    → of_first (front ++ b ∷ back) a ≡ found_pair Entries a b
+pub of_first_pair : (end : Option ℕ) (front back : List (List ℕ)) (a b : List ℕ) → is_entry (line_kind a) ≡ true → subject b ≡ subject a → off (subject a) front ≡ true
+    → of_first end (front ++ b ∷ back) a ≡ found_pair Entries a b
 unfolding of_first
-of_first_pair front back a b entry same out = rw (in_entries (line_kind a) entry, about_off (subject a) front (b ∷ back) out, there back a b same) refl
+of_first_pair end front back a b entry same out = rw (in_entries (line_kind a) entry, about_off (subject a) front (b ∷ back) out, there back a b same) refl
 
 -- two steps at once
 pub chain_on : (all fm mid e rest fm' : List Found) → all ≡ fm ++ mid → mid ≡ e ++ rest → fm' ≡ fm ++ e → all ≡ fm' ++ rest

@@ -1,11 +1,12 @@
 -- The form of a text, by the place of its first end.
-use Rattle.std.proofs.Common.{◌≡◌, ◌<◌, ◌≤◌, ◌+◌, ◌++◌, ◌∷◌, ℕ, true, false, not, if◌then◌else◌, List, [], length, take, drop, Some, refl, min, subst, ap, ◌∙◌, inl, inr, arith}
+use Rattle.std.proofs.Common.{◌≡◌, ◌<◌, ◌≤◌, ◌+◌, ◌++◌, ◌∷◌, ℕ, true, false, not, if◌then◌else◌, List, [], length, take, drop, Some, refl, sym, min, subst, ap, ◌∙◌, inl, inr, arith}
 use Rattle.std.specs.List.{after_first, list_any, position_or_len}
 use Rattle.std.specs.Option.{option_map}
 use Rattle.std.specs.Borrow.{Bor}
 use Rattle.std.proofs.lemmas.List.{take-map, length-map, take_all, drop_all}
 use Rattle.std.specs.List.{drop-map}
-use Rattle.std.proofs.lemmas.Bool.{cases_Bool, cases_lt}
+use Rattle.std.specs.Prelude.{nat_lt}
+use Rattle.std.proofs.lemmas.Bool.{cases_Bool, cases_lt, le-ltb, lt-ltb}
 use Rattle.std.proofs.lemmas.List.Folds.{list_any-append, list_any_at, list_any_none}
 use Rattle.std.proofs.Math.Seq.{drop-append-add, take-append-add}
 use Rattle.std.proofs.lemmas.List.Sums.{fails_before_first, passes_at_first}
@@ -34,6 +35,12 @@ no_end text past = list_any_none is_end text (λ k d lt. fails_before_first is_e
 
 some_end : (text : List (List ℕ)) → position_or_len is_end text < length text → list_any is_end text ≡ true
 some_end text lt = list_any_at is_end text (position_or_len is_end text) [] lt (passes_at_first is_end text [] lt)
+
+pub has_end_is : (all : List (Bor (List ℕ))) (end : ℕ) → end ≡ position_or_len is_end (texts all) → nat_lt end (length all) ≡ list_any is_end (texts all)
+has_end_is all end place = elim (cases_lt end (length all)) [
+  | inl lt ↦ lt-ltb end (length all) lt ∙ sym (some_end (texts all) (omega (arith, place, length-map all now)))
+  | inr ge ↦ le-ltb end (length all) ge ∙ sym (no_end (texts all) (omega (arith, place, length-map all now)))
+]
 
 -- behind lines of which none is an end
 past : (earlier text : List (List ℕ)) → list_any is_end earlier ≡ false → position_or_len is_end (earlier ++ text) ≡ length earlier + position_or_len is_end text

@@ -3,17 +3,19 @@ use Rattle.std.specs.Prelude.{ℕ, ◌≡◌, ◌+◌, ◌-◌, ◌≤◌, ◌==
 use Rattle.std.specs.List.{flat_map, list_all, list_any, take_while}
 use Rattle.std.specs.Option.{option_map}
 use Rattle.report_diff.specs.declared.comparing.Comparison.{Comparison}
+use Rattle.report_diff.specs.declared.comparing.Terms.{Terms}
 use Rattle.report_diff.specs.declared.comparing.DiffFault.{DiffFault}
 use Rattle.report_diff.specs.declared.comparing.DiffFault.TheVariants.{Memory, Refused}
 use Rattle.report_diff.specs.declared.fronts.Merging.{Merging}
 use Rattle.report_diff.specs.declared.fronts.Offer.{Offer}
 use Rattle.report_diff.specs.declared.fronts.Offer.TheVariants.{Taken, Second, Ended}
+use Rattle.report_diff.specs.declared.index.Index.{Index}
 use Rattle.report_diff.specs.declared.passed.Passed.{Passed}
 use Rattle.report_diff.specs.declared.telling.Told.{Told}
 use Rattle.report_diff.specs.declared.version.Version.{Version}
 use Rattle.report_diff.specs.declared.version.Version.TheVariants.{One, Two}
-use Rattle.report_diff.specs.Differences.{AreCounts, Found, counts_text, findings, found, found_text, no_difference, of_first}
-use Rattle.report_diff.specs.Inputs.{are_alike_of, differences_of, is_end, refusal_of, version_of}
+use Rattle.report_diff.specs.Differences.{AreCounts, Ends, Found, findings, found, found_text, of_first, passes, text_of_found}
+use Rattle.report_diff.specs.Inputs.{differences_of, entries_in, is_end, passes_of, refusal_of, version_of, whole}
 use Rattle.report_diff.specs.declared.refusal.Side.{Side}
 use Rattle.report_diff.specs.Lines.{first_behind, line_kind, lines}
 use Rattle.report_diff.specs.Refusals.{order_text, otherwise_text, refusal_text, shown_subject}
@@ -40,7 +42,7 @@ front text = front_in (version_of text) text
 
 -- The lines of a text that end in a line feed.
 abbrev pub whole_lines : List ℕ → List (List ℕ)
-whole_lines text = take (length (lines text) - 1) (lines text)
+whole_lines text = whole (lines text)
 
 -- A front reaches an entry where it has one of the same place or a later one.
 abbrev pub is_not_below : Option ℕ → Option ℕ → Bool
@@ -52,7 +54,7 @@ reaches others line = list_any (λ other. is_not_below (line_place line) (line_p
 
 -- What is found early of two fronts: of the entries of the first that the second reaches.
 unfoldable pub early : List (List ℕ) → List (List ℕ) → List Found
-early first second = flat_map (of_first second) (take_while (reaches second) first)
+early first second = flat_map (of_first None second) (take_while (reaches second) first)
 
 -- What is told early of two texts, which need not end.
 unfoldable pub early_text_of_two : List ℕ → List ℕ → List ℕ
@@ -121,6 +123,11 @@ abbrev pub Ahead : Option ℕ → List ℕ → (next from : ℕ) → List (List 
 Ahead None line next from second kept = next ≤ from
 Ahead (Some place) line next from second kept = IsAhead place line next from second kept
 
+-- Where the entries of the second end, if one of the two was cut off: none of those that were passed stands there or behind.
+abbrev pub Covers : ℕ → Option ℕ → Type 0
+Covers next None = ⊤
+Covers next (Some end) = next ≤ end
+
 -- The entries of two reports that were passed behind their headings, and the text that was taken of what was found.
 pub record Merges (m : Merging) (first second : List (List ℕ)) (taken : List ℕ) : Type 0 where
   pub kept : List (List ℕ)
@@ -135,14 +142,14 @@ pub record Merges (m : Merging) (first second : List (List ℕ)) (taken : List �
   pub from : m.first.next ≤ m.from
   pub kept_passed : list_all (is_below m.second.next) kept ≡ true
   pub ahead : Ahead m.ahead m.line.items m.second.next m.from second kept
-  pub text : found_text (flat_map (of_first second) first) ≡ taken ++ m.told.text.items
-  pub counts : AreCounts (findings (flat_map (of_first second) first)) m.told.counts
+  pub text : found_text (flat_map (of_first None second) first) ≡ taken ++ m.told.text.items
+  pub counts : AreCounts (findings (flat_map (of_first None second) first)) m.told.counts
   pub reached : list_all (reaches second) first ≡ true
   pub below_first : list_all (is_below m.second.next) first ≡ true
   pub below_second : list_all (is_below m.second.next) second ≡ true
-  pub finds : (more back : List (List ℕ)) → list_all (is_from m.from) more ≡ true → list_all (is_from m.second.next) back ≡ true
-      → found (heading ∷ first ++ more) (heading ∷ second ++ back)
-      ≡ flat_map (of_first second) first ++ found (heading ∷ more) (heading ∷ kept ++ (ahead_lines m.ahead m.line.items ++ back))
+  pub finds : (ends : Ends) → Covers m.second.next ends.second → (more back : List (List ℕ)) → list_all (is_from m.from) more ≡ true
+      → list_all (is_from m.second.next) back ≡ true → found ends (heading ∷ first ++ more) (heading ∷ second ++ back)
+      ≡ flat_map (of_first None second) first ++ found ends (heading ∷ more) (heading ∷ kept ++ (ahead_lines m.ahead m.line.items ++ back))
   pub says_first : (more : List (List ℕ)) → list_all (is_from m.from) more ≡ true
       → otherwise (heading ∷ first ++ more) ≡ further (length first) (otherwise (heading ∷ more))
   pub says_second : (back : List (List ℕ)) → list_all (is_from m.second.next) back ≡ true
@@ -178,10 +185,10 @@ abbrev pub AwaitsText : Merging → List (List ℕ) → Type 0
 AwaitsText m rest = (m.from ≡ m.first.next) ⊎ ((line : List ℕ) × (more : List (List ℕ)) × (rest ≡ line ∷ more) × IsAwaited m.from line)
 
 -- All lines of two reports: they are two of one version, and this is how they compare, behind what was taken.
-pub record ComparesBehind (taken : List ℕ) (first second : List (List ℕ)) (comparison : Comparison) : Type 0 where
-  pub reports : refusal_of first second ≡ None
-  pub text : taken ++ comparison.text.items ≡ differences_of first second
-  pub alike : comparison.alike ≡ are_alike_of first second
+pub record ComparesBehind (terms : Terms) (taken : List ℕ) (first second : List (List ℕ)) (comparison : Comparison) : Type 0 where
+  pub reports : refusal_of terms first second ≡ None
+  pub text : taken ++ comparison.text.items ≡ differences_of terms first second
+  pub passes : comparison.passes ≡ passes_of terms first second
 
 -- The next line of the first report, and its place.
 pub record IsNext (m : Merging) (line : List ℕ) (place : ℕ) : Type 0 where
@@ -204,6 +211,15 @@ pub record HoldsBehind (taken : List ℕ) (all : Told) (founds : List Found) : T
   pub text : found_text founds ≡ taken ++ all.text.items
 
 -- The text of all that was found, behind what was taken of it.
-pub record ComparesFound (taken : List ℕ) (founds : List Found) (comparison : Comparison) : Type 0 where
-  pub text : taken ++ comparison.text.items ≡ found_text founds ++ counts_text (findings founds)
-  pub alike : comparison.alike ≡ no_difference (findings founds)
+pub record ComparesFound (strict : Bool) (taken : List ℕ) (founds : List Found) (comparison : Comparison) : Type 0 where
+  pub text : taken ++ comparison.text.items ≡ text_of_found founds
+  pub passes : comparison.passes ≡ passes strict (findings founds)
+
+-- Where the entries of two indexed reports end.
+abbrev pub ends_at : Index → Index → Ends
+ends_at first second = record { first = first.end; second = second.end }
+
+-- What is left of the second text, with the end that it is taken to have where it was cut off.
+abbrev pub taken_rest : (cut : Bool) → List (List ℕ) → List (List ℕ)
+taken_rest false rest = rest
+taken_rest true rest = entries_in rest ++ codes "end" ∷ []

@@ -26,7 +26,7 @@ abbrev pub line_text : List ℕ → Side → ℕ → List ℕ → List ℕ
 line_text does side line subject = codes "line " ++ (decimal line ++ (codes " of the " ++ (side_name side ++ (does ++ subject))))
 
 abbrev pub otherwise_text : Side → ℕ → List ℕ → List ℕ
-otherwise_text = line_text (codes " says otherwise of ")
+otherwise_text = line_text (codes " contradicts an earlier one about ")
 
 abbrev pub order_text : Side → ℕ → List ℕ → List ℕ
 order_text = line_text (codes " is out of order at ")
@@ -45,7 +45,7 @@ abbrev pub flaw_text : Side → Flaw → List ℕ
 flaw_text side Heading = codes "the " ++ side_name side ++ codes " does not begin with uring-report 1"
 flaw_text First End = codes "the first has no line end"
 flaw_text Second End = codes "the second has no end"
-flaw_text side GoesOn = codes "the " ++ side_name side ++ codes " goes on behind its end"
+flaw_text side GoesOn = codes "there is text after the end of the " ++ side_name side
 flaw_text side (Versions first second) = versions_text first second
 flaw_text side (Order line subject) = order_text side line subject.bytes
 flaw_text side (Otherwise line subject) = otherwise_text side line subject.bytes

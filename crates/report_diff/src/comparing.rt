@@ -3,9 +3,10 @@ ghost use Rattle.std.specs.Prelude.{◌≡◌, ◌≤◌, ◌++◌, IfErr, IfOk,
 ghost use Rattle.std.specs.List.{flat_map, position_or_len};
 ghost use Rattle.report_diff.specs.Differences.{Adds, Found, found};
 ghost use Rattle.report_diff.specs.Differences.{of_first, of_second};
-ghost use Rattle.report_diff.specs.Inputs.{Compares, ComparesLines, ComparesTwo, TellsFlaw, TellsVersions};
-ghost use Rattle.report_diff.specs.Inputs.{TellsOfInput, TellsOfLines, TellsOfTwo};
-ghost use Rattle.report_diff.specs.Merging.{ComparesFound, HoldsBehind, IsPassed, order_behind};
+ghost use Rattle.report_diff.specs.Inputs.{Compares, ComparesLines, ComparesTexts, ComparesTwo};
+ghost use Rattle.report_diff.specs.Inputs.{TellsFlaw, TellsVersions};
+ghost use Rattle.report_diff.specs.Inputs.{TellsOfInput, TellsOfLines, TellsOfTexts, TellsOfTwo};
+ghost use Rattle.report_diff.specs.Merging.{ComparesFound, HoldsBehind, IsPassed, ends_at, order_behind};
 ghost use Rattle.report_diff.specs.Refusals.{refusal_text};
 ghost use Rattle.report_diff.specs.Inputs.{flaw_behind, flaw_of, is_end, is_nothing, report_in, version_of, versions_flaw};
 ghost use Rattle.report_diff.specs.declared.comparing.DiffFault.TheVariants.{Memory, Refused};
@@ -13,6 +14,7 @@ ghost use Rattle.report_diff.specs.Lines.{texts};
 ghost use Rattle.report_diff.specs.Repeats.{IsIndex};
 
 use crate::counting::counts_text;
+use crate::cutting::{closed, entries_end, is_cut};
 use crate::index::Index;
 use crate::lines::lines;
 use crate::passed::Passed;
@@ -22,13 +24,22 @@ use crate::telling::Told;
 use crate::version::Version;
 use std::alloc::{AllocError, Global};
 
+/// What is asked of a comparison.
+#[derive(Clone, Copy, Debug, PartialEq, Eq)]
+pub struct Terms {
+    /// Whether two reports pass only where nothing is left that is not compared.
+    pub strict: bool,
+    /// Whether the second report may be cut off: a recording that was killed has no line `end`.
+    pub truncated: bool,
+}
+
 /// How two reports compare.
 #[derive(Debug, Drop)]
 pub struct Comparison {
-    /// The lines that differ or are not compared, and the counts of each section.
+    /// The lines that differ or are unchecked, and the counts of each section.
     pub text: Vec<u8>,
-    /// Whether no line differs.
-    pub alike: bool,
+    /// Whether no line differs and, in a strict comparison, nothing is left that is not compared.
+    pub passes: bool,
 }
 
 /// Why there is no comparison.
@@ -61,14 +72,14 @@ impl From<Refusal> for DiffFault {
 /// # Errors
 ///
 /// Refused where the input is not two reports, with the first reason; else out of memory.
-pub fn compare(alloc: Global, input: &[u8]) -> Result<Comparison, DiffFault>
-    ensures ok { IfOk result (Compares input.now) }
-    ensures err { IfErr result (TellsOfInput input.now) }
+pub fn compare(alloc: Global, terms: Terms, input: &[u8]) -> Result<Comparison, DiffFault>
+    ensures ok { IfOk result (Compares terms input.now) }
+    ensures err { IfErr result (TellsOfInput terms input.now) }
 {
     let lines = lines(alloc, input)?;
     let lines = lines.as_slice();
     let second = lines.len().min(end_of(lines) + 1);
-    compare_lines(alloc, &lines[..second], &lines[second..])
+    compare_lines(alloc, terms, &lines[..second], &lines[second..])
 }
 
 /// Compares two reports that are given apart.
@@ -76,27 +87,56 @@ pub fn compare(alloc: Global, input: &[u8]) -> Result<Comparison, DiffFault>
 /// # Errors
 ///
 /// Refused where one of the texts is no report, with the first reason; else out of memory.
-pub fn compare_two(alloc: Global, first: &[u8], second: &[u8]) -> Result<Comparison, DiffFault>
-    ensures ok { IfOk result (ComparesTwo first.now second.now) }
-    ensures err { IfErr result (TellsOfTwo first.now second.now) }
+pub fn compare_two(
+    alloc: Global,
+    terms: Terms,
+    first: &[u8],
+    second: &[u8],
+) -> Result<Comparison, DiffFault>
+    ensures ok { IfOk result (ComparesTwo terms first.now second.now) }
+    ensures err { IfErr result (TellsOfTwo terms first.now second.now) }
 {
     let first = lines(alloc, first)?;
     let second = lines(alloc, second)?;
-    compare_lines(alloc, first.as_slice(), second.as_slice())
+    compare_lines(alloc, terms, first.as_slice(), second.as_slice())
 }
 
 /// Compares the reports of two texts, by their lines.
-#[tactic(auto, unfolding(crate::specs::Inputs::refusal_of, crate::specs::Inputs::differences_of, crate::specs::Inputs::are_alike_of))]
-fn compare_lines(alloc: Global, first: &[&[u8]], second: &[&[u8]]) -> Result<Comparison, DiffFault>
-    ensures ok { IfOk result (ComparesLines (texts first.now) (texts second.now)) }
-    ensures err { IfErr result (TellsOfLines (texts first.now) (texts second.now)) }
+#[tactic(auto, unfolding(crate::specs::Inputs::refusal_of, crate::specs::Inputs::found_of, crate::specs::Inputs::differences_of, crate::specs::Inputs::passes_of, crate::specs::Inputs::taken_as))]
+fn compare_lines(
+    alloc: Global,
+    terms: Terms,
+    first: &[&[u8]],
+    second: &[&[u8]],
+) -> Result<Comparison, DiffFault>
+    ensures ok { IfOk result (ComparesLines terms (texts first.now) (texts second.now)) }
+    ensures err { IfErr result (TellsOfLines terms (texts first.now) (texts second.now)) }
+{
+    if !is_cut(terms, second) {
+        return compare_texts(alloc, terms.strict, false, first, second);
+    }
+    let closed = closed(alloc, second)?;
+    compare_texts(alloc, terms.strict, true, first, closed.as_slice())
+}
+
+/// Compares the reports of two texts, the second of which may be cut off.
+#[tactic(auto, unfolding(crate::specs::Inputs::refusal_of_texts, crate::specs::Inputs::found_of_texts))]
+fn compare_texts(
+    alloc: Global,
+    strict: bool,
+    cut: bool,
+    first: &[&[u8]],
+    second: &[&[u8]],
+) -> Result<Comparison, DiffFault>
+    ensures ok { IfOk result (ComparesTexts strict cut (texts first.now) (texts second.now)) }
+    ensures err { IfErr result (TellsOfTexts (texts first.now) (texts second.now)) }
 {
     let one = report_in(Side::First, first)?;
     let other = report_in(Side::Second, second)?;
     of_one_version(first, second)?;
-    let one = Index::of(alloc, Side::First, 0, one)?;
-    let other = Index::of(alloc, Side::Second, 0, other)?;
-    Ok(compared(alloc, Told::nothing(alloc), &one, &other)?)
+    let one = Index::of(alloc, Side::First, 0, entries_end(cut, 0, one), one)?;
+    let other = Index::of(alloc, Side::Second, 0, entries_end(cut, 0, other), other)?;
+    Ok(compared(alloc, strict, Told::nothing(alloc), &one, &other)?)
 }
 
 /// Refuses two reports of different versions.
@@ -175,7 +215,7 @@ fn is_nothing(lines: &[&[u8]]) -> bool
 }
 
 /// The place of the first line `end`, or how many lines there are.
-fn end_of(lines: &[&[u8]]) -> usize
+pub(crate) fn end_of(lines: &[&[u8]]) -> usize
     ensures place { result ≡ position_or_len is_end (texts lines.now) }
     ensures bound { result ≤ length lines.now }
 {
@@ -190,21 +230,23 @@ fn end_of(lines: &[&[u8]]) -> usize
 /// How two reports compare, behind what was found before.
 pub(crate) fn compared(
     alloc: Global,
+    strict: bool,
     told: Told,
     first: &Index<'_>,
     second: &Index<'_>,
 ) -> Result<Comparison, AllocError>
     ensures { (one other : List (List ℕ)) → (taken : List ℕ) → (before : List Found)
         → IsIndex first.now one → IsIndex second.now other → HoldsBehind taken told before
-        → IfOk result (ComparesFound taken (before ++ found one other)) }
+        → IfOk result (ComparesFound strict taken
+        (before ++ found (ends_at first.now second.now) one other)) }
 {
     let mut told = told;
     add_all(alloc, &mut told, first, second)?;
     let counts = counts_text(alloc, told.counts)?;
-    let alike = told.counts.no_difference();
+    let passes = told.counts.pass(strict);
     let mut text = told.text;
     text.extend_from_slice(counts.as_bytes())?;
-    Ok(Comparison { text, alike })
+    Ok(Comparison { text, passes })
 }
 
 /// Adds what the lines of two reports tell: those of the first, then those that only the second has.
@@ -216,7 +258,7 @@ fn add_all(
     second: &Index<'_>,
 ) -> Result<(), AllocError>
     ensures { (one other : List (List ℕ)) → IsIndex first.now one → IsIndex second.now other
-        → OnOk result (Adds told.old told.new (found one other)) }
+        → OnOk result (Adds told.old told.new (found (ends_at first.now second.now) one other)) }
 {
     add_firsts(alloc, told, second, first.lines())?;
     add_seconds(alloc, told, first, second.lines())?;
@@ -230,7 +272,8 @@ fn add_firsts(
     lines: &[&[u8]],
 ) -> Result<(), AllocError>
     ensures { (text : List (List ℕ)) → IsIndex second.now text
-        → OnOk result (Adds told.old told.new (flat_map (of_first text) (texts lines.now))) }
+        → OnOk result (Adds told.old told.new
+        (flat_map (of_first second.now.end text) (texts lines.now))) }
 {
     for line in lines {
         told.add_first(alloc, second, line)?;
@@ -245,7 +288,8 @@ fn add_seconds(
     lines: &[&[u8]],
 ) -> Result<(), AllocError>
     ensures { (text : List (List ℕ)) → IsIndex first.now text
-        → OnOk result (Adds told.old told.new (flat_map (of_second text) (texts lines.now))) }
+        → OnOk result (Adds told.old told.new
+        (flat_map (of_second first.now.end text) (texts lines.now))) }
 {
     for line in lines {
         told.add_second(alloc, first, line)?;

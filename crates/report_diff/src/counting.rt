@@ -1,20 +1,22 @@
-//! How many lines were found equal, different and outside, by section.
-ghost use Rattle.std.specs.Prelude.{◌≡◌, ◌==◌, ◌&&◌, ◌∷◌, ◌+◌, ◌++◌, List, IfOk, OnOk, [], if◌then◌else◌};
+//! How many lines were found equal, different, unchecked and given, by section.
+ghost use Rattle.std.specs.Prelude.{◌≡◌, ◌==◌, ◌&&◌, ◌||◌, ◌∷◌, ◌+◌, ◌++◌, List, IfOk, OnOk, [], if◌then◌else◌};
 ghost use Rattle.std.specs.Prelude.{string_bytes};
 ghost use Rattle.report_diff.specs.Differences.{AreCounts, IsTally, counts_text};
-ghost use Rattle.report_diff.specs.Differences.{is_of, large_line, no_difference, section_name, tally_line};
+ghost use Rattle.report_diff.specs.Differences.{is_complete, is_of, lacks_line, lacks_text};
+ghost use Rattle.report_diff.specs.Differences.{no_difference, passes, section_name, tally_line};
 ghost use Rattle.report_diff.specs.declared.telling.Finding.{Finding};
 
 use crate::lines::Section;
 use crate::telling::{Finding, Outcome};
 use std::alloc::{AllocError, Global};
 
-/// How many lines of a section are equal, different, and not compared.
+/// How many lines of a section are equal, different, unchecked and given.
 #[derive(Clone, Copy)]
 pub(crate) struct Tally {
     equal: u64,
     different: u64,
-    outside: u64,
+    unchecked: u64,
+    given: u64,
 }
 
 /// The counts of all sections.
@@ -24,6 +26,10 @@ pub(crate) struct Counts {
     tree: Tally,
     slots: Tally,
     buffers: Tally,
+    /// How many entries read bytes that are not compared.
+    bytes: u64,
+    /// How many sums are not compared.
+    sums: u64,
     /// How many large files have bytes that are not compared.
     large: u64,
 }
@@ -54,7 +60,8 @@ impl Tally {
         Tally {
             equal: 0,
             different: 0,
-            outside: 0,
+            unchecked: 0,
+            given: 0,
         }
     }
 
@@ -66,7 +73,8 @@ impl Tally {
         Ok(Tally {
             equal: grown(self.equal, finding.is_of(section, Outcome::Equal))?,
             different: grown(self.different, finding.is_of(section, Outcome::Different))?,
-            outside: grown(self.outside, finding.is_of(section, Outcome::Outside))?,
+            unchecked: grown(self.unchecked, finding.is_of(section, Outcome::Unchecked))?,
+            given: grown(self.given, finding.is_of(section, Outcome::Given))?,
         })
     }
 }
@@ -80,6 +88,8 @@ impl Counts {
             tree: Tally::none(),
             slots: Tally::none(),
             buffers: Tally::none(),
+            bytes: 0,
+            sums: 0,
             large: 0,
         }
     }
@@ -93,12 +103,30 @@ impl Counts {
         self.tree = self.tree.with(Section::Tree, finding)?;
         self.slots = self.slots.with(Section::Slots, finding)?;
         self.buffers = self.buffers.with(Section::Buffers, finding)?;
+        self.bytes = grown(self.bytes, finding.bytes)?;
+        self.sums = grown(self.sums, finding.sum)?;
         self.large = grown(self.large, finding.large)?;
         Ok(())
     }
 
+    /// Whether no line differs and, in a strict comparison, nothing is left that is not compared.
+    #[tactic(auto, unfolding(crate::specs::Differences::passes))]
+    pub(crate) fn pass(&self, strict: bool) -> bool
+        ensures { (all : List Finding) → AreCounts all self.now → result ≡ passes strict all }
+    {
+        self.no_difference() && (!strict || self.is_complete())
+    }
+
+    /// Whether nothing is left that is not compared.
+    #[tactic(auto, unfolding(crate::specs::Differences::is_complete))]
+    fn is_complete(&self) -> bool
+        ensures { (all : List Finding) → AreCounts all self.now → result ≡ is_complete all }
+    {
+        self.bytes == 0 && self.sums == 0 && self.large == 0
+    }
+
     /// Whether no line differs.
-    pub(crate) fn no_difference(&self) -> bool
+    fn no_difference(&self) -> bool
         ensures { (all : List Finding) → AreCounts all self.now → result ≡ no_difference all }
     {
         are_none(
@@ -128,30 +156,39 @@ fn section_name(section: Section) -> &'static str
 }
 
 /// The line of a section's counts.
-#[tactic(auto, unfolding(crate::specs::Differences::tally_line))]
 fn push_counts(text: &mut String, section: Section, tally: Tally) -> Result<(), AllocError>
     ensures { OnOk result (string_bytes text.new ≡ string_bytes text.old
-        ++ tally_line section tally.equal tally.different tally.outside) }
+        ++ tally_line section tally.equal tally.different tally.unchecked tally.given) }
 {
     let name = section_name(section);
-    let (equal, different, outside) = (tally.equal, tally.different, tally.outside);
+    let (equal, different) = (tally.equal, tally.different);
+    let (unchecked, given) = (tally.unchecked, tally.given);
     writeln!(
         text,
-        "{name} {equal} equal, {different} different, {outside} outside"
+        "{name} {equal} equal, {different} different, {unchecked} unchecked, {given} given"
     )
 }
 
-/// The line of the large files whose bytes are not compared, where there are some.
-#[tactic(auto, unfolding(crate::specs::Differences::large_line))]
-fn push_large(text: &mut String, counts: Counts) -> Result<(), AllocError>
-    ensures { (all : List Finding) → AreCounts all counts
-        → OnOk result (string_bytes text.new ≡ string_bytes text.old ++ large_line all) }
+/// The line of what is not compared.
+fn push_lacks(text: &mut String, bytes: u64, sums: u64, large: u64) -> Result<(), AllocError>
+    ensures { OnOk result (string_bytes text.new ≡ string_bytes text.old
+        ++ lacks_line bytes sums large) }
 {
-    let large = counts.large;
-    if large == 0 {
+    writeln!(
+        text,
+        "not compared: data {bytes} entries, sums {sums}, large {large}"
+    )
+}
+
+/// The same, where there is something.
+fn push_incomplete(text: &mut String, counts: Counts) -> Result<(), AllocError>
+    ensures { (all : List Finding) → AreCounts all counts
+        → OnOk result (string_bytes text.new ≡ string_bytes text.old ++ lacks_text all) }
+{
+    if counts.is_complete() {
         return Ok(());
     }
-    writeln!(text, "large {large} not compared")
+    push_lacks(text, counts.bytes, counts.sums, counts.large)
 }
 
 /// The counts of each section.
@@ -164,6 +201,6 @@ pub(crate) fn counts_text(alloc: Global, counts: Counts) -> Result<String, Alloc
     push_counts(&mut text, Section::Tree, counts.tree)?;
     push_counts(&mut text, Section::Slots, counts.slots)?;
     push_counts(&mut text, Section::Buffers, counts.buffers)?;
-    push_large(&mut text, counts)?;
+    push_incomplete(&mut text, counts)?;
     Ok(text)
 }

@@ -1,12 +1,14 @@
 //! What lines say, and whether their facts agree.
-ghost use Rattle.std.specs.Prelude.{◌≡◌, ◌==◌, IfOk, List, codes, filter, not, ℕ};
+ghost use Rattle.std.specs.Prelude.{◌≡◌, ◌==◌, IfOk, List, filter, not, ℕ};
 ghost use Rattle.std.specs.List.{list_all, list_any, position_or_len};
 ghost use Rattle.std.specs.Str.{bytes_eq};
-ghost use Rattle.report_diff.specs.Differences.{agree, fits, has_name, pair_finding};
-ghost use Rattle.report_diff.specs.Differences.{lone_outcome, pair_outcome};
+ghost use Rattle.report_diff.specs.Differences.{fits, has_name, is_compared, is_unchecked};
+ghost use Rattle.report_diff.specs.Differences.{is_whole_data, lacks_bytes, lacks_large, lacks_sum};
+ghost use Rattle.report_diff.specs.Differences.{lone_outcome, pair_finding, pair_outcome};
 ghost use Rattle.report_diff.specs.Lines.{fact_name, facts, is_time, texts};
 ghost use Rattle.report_diff.specs.Repeats.{all_among, have_same_facts};
 
+use crate::cutting::is_past;
 use crate::known::Known;
 use crate::lines::{Section, line_kind, words};
 use crate::telling::{Finding, Outcome};
@@ -144,7 +146,6 @@ fn all_among(alloc: Global, facts: &[&[u8]], others: &[&[u8]]) -> Result<bool, A
 }
 
 /// What is found of two lines of one subject.
-#[tactic(auto, unfolding(crate::specs::Differences::is_large_pair))]
 pub(crate) fn pair_finding(
     alloc: Global,
     section: Section,
@@ -153,29 +154,22 @@ pub(crate) fn pair_finding(
 ) -> Result<Finding, AllocError>
     ensures { IfOk result (λ finding. finding ≡ pair_finding section one.now other.now) }
 {
-    let one_facts = facts(alloc, one)?;
-    let other_facts = facts(alloc, other)?;
-    let (one_facts, other_facts) = (one_facts.as_slice(), other_facts.as_slice());
-    let outcome = outcome_of(alloc, one_facts, other_facts)?;
-    let large = is_large(one_facts)
-        && is_large(other_facts)
-        && !(has_name(one_facts, b"tree-sum") && has_name(other_facts, b"tree-sum"));
+    let one = facts(alloc, one)?;
+    let other = facts(alloc, other)?;
+    let (one, other) = (one.as_slice(), other.as_slice());
+    let outcome = outcome_of(alloc, one, other)?;
+    let compared = is_compared(outcome);
     Ok(Finding {
         section,
         outcome,
-        large,
+        bytes: compared && lack_bytes(one, other),
+        sum: compared && lack_sum(one, other),
+        large: compared && lack_large(one, other),
     })
 }
 
-/// Whether a file is too large for a sum.
-fn is_large(facts: &[&[u8]]) -> bool
-    ensures { result ≡ list_any (bytes_eq (codes "sum=large")) (texts facts.now) }
-{
-    is_among(facts, b"sum=large")
-}
-
 /// How two lines with these facts compare.
-#[tactic(auto, unfolding(crate::specs::Differences::pair_outcome, crate::specs::Differences::is_outside, crate::specs::Differences::agree))]
+#[tactic(auto, unfolding(crate::specs::Differences::pair_outcome, crate::specs::Differences::agree))]
 fn outcome_of(
     alloc: Global,
     one_facts: &[&[u8]],
@@ -185,23 +179,104 @@ fn outcome_of(
         → texts other_facts.now ≡ facts other
         → IfOk result (λ outcome. outcome ≡ pair_outcome one other) }
 {
-    if has_name(one_facts, b"outside") || has_name(other_facts, b"outside") {
-        Ok(Outcome::Outside)
-    } else if all_fit(alloc, one_facts, other_facts)? && all_fit(alloc, other_facts, one_facts)? {
-        Ok(Outcome::Equal)
-    } else {
+    if are_unchecked(one_facts) || are_unchecked(other_facts) {
+        Ok(Outcome::Unchecked)
+    } else if !all_fit(alloc, one_facts, other_facts)? || !all_fit(alloc, other_facts, one_facts)? {
         Ok(Outcome::Different)
+    } else if is_among(one_facts, b"given=1") || is_among(other_facts, b"given=1") {
+        Ok(Outcome::Given)
+    } else {
+        Ok(Outcome::Equal)
     }
 }
 
-/// How a line compares whose subject the other text lacks.
-#[tactic(auto, unfolding(crate::specs::Differences::lone_outcome, crate::specs::Differences::is_outside))]
-pub(crate) fn lone_outcome(alloc: Global, line: &[u8]) -> Result<Outcome, AllocError>
-    ensures { IfOk result (λ outcome. outcome ≡ lone_outcome line.now) }
+/// Whether a line with these facts is unchecked.
+#[tactic(auto, unfolding(crate::specs::Differences::is_unchecked))]
+fn are_unchecked(line_facts: &[&[u8]]) -> bool
+    ensures { (line : List ℕ) → texts line_facts.now ≡ facts line → result ≡ is_unchecked line }
+{
+    has_name(line_facts, b"unchecked") || is_among(line_facts, b"completion=unseen")
+}
+
+/// Whether lines of this outcome are claimed to be equal or different.
+fn is_compared(outcome: Outcome) -> bool
+    ensures { result ≡ is_compared outcome }
+{
+    match outcome {
+        Outcome::Equal | Outcome::Different => true,
+        Outcome::Unchecked | Outcome::Given => false,
+    }
+}
+
+/// Whether the bytes that an entry read are not compared by these facts.
+#[tactic(auto, unfolding(crate::specs::Differences::lacks_bytes))]
+fn lack_bytes(one_facts: &[&[u8]], other_facts: &[&[u8]]) -> bool
+    ensures { (one other : List ℕ) → texts one_facts.now ≡ facts one
+        → texts other_facts.now ≡ facts other → result ≡ lacks_bytes one other }
+{
+    let sums = (
+        has_name(one_facts, b"data-sum"),
+        has_name(other_facts, b"data-sum"),
+    );
+    (has_name(one_facts, b"data") || sums.0 || has_name(other_facts, b"data") || sums.1)
+        && !(sums.0 && sums.1)
+        && !(show_data(one_facts) && show_data(other_facts))
+}
+
+/// Whether all bytes that an entry read are shown.
+fn show_data(facts: &[&[u8]]) -> bool
+    ensures { result ≡ list_any is_whole_data (texts facts.now) }
+{
+    for fact in facts {
+        if is_whole_data(fact) {
+            return true;
+        }
+    }
+    false
+}
+
+fn is_whole_data(fact: &[u8]) -> bool
+    ensures { result ≡ is_whole_data fact.now }
+{
+    b"data".as_slice() == fact_name(fact) && !fact.ends_with(b"+")
+}
+
+/// Whether one of them alone has a sum.
+#[tactic(auto, unfolding(crate::specs::Differences::lacks_sum))]
+fn lack_sum(one_facts: &[&[u8]], other_facts: &[&[u8]]) -> bool
+    ensures { (one other : List ℕ) → texts one_facts.now ≡ facts one
+        → texts other_facts.now ≡ facts other → result ≡ lacks_sum one other }
+{
+    if has_name(one_facts, b"sum") {
+        !has_name(other_facts, b"sum")
+    } else {
+        has_name(other_facts, b"sum")
+    }
+}
+
+/// Whether the bytes of a large file are not compared.
+#[tactic(auto, unfolding(crate::specs::Differences::lacks_large))]
+fn lack_large(one_facts: &[&[u8]], other_facts: &[&[u8]]) -> bool
+    ensures { (one other : List ℕ) → texts one_facts.now ≡ facts one
+        → texts other_facts.now ≡ facts other → result ≡ lacks_large one other }
+{
+    is_among(one_facts, b"sum=large")
+        && is_among(other_facts, b"sum=large")
+        && !(has_name(one_facts, b"tree-sum") && has_name(other_facts, b"tree-sum"))
+}
+
+/// How a line compares whose subject the other text lacks, whose entries end there.
+#[tactic(auto, unfolding(crate::specs::Differences::lone_outcome))]
+pub(crate) fn lone_outcome(
+    alloc: Global,
+    end: Option<u64>,
+    line: &[u8],
+) -> Result<Outcome, AllocError>
+    ensures { IfOk result (λ outcome. outcome ≡ lone_outcome end line.now) }
 {
     let facts = facts(alloc, line)?;
-    if has_name(facts.as_slice(), b"outside") {
-        Ok(Outcome::Outside)
+    if are_unchecked(facts.as_slice()) || is_past(end, line) {
+        Ok(Outcome::Unchecked)
     } else {
         Ok(Outcome::Different)
     }

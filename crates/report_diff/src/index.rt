@@ -19,6 +19,8 @@ use std::collections::BTreeMap;
 pub(crate) struct Index<'a> {
     known: BTreeMap<&'a [u8], &'a [u8]>,
     lines: Vec<&'a [u8]>,
+    // Where the entries of the text end, of two of which one was cut off.
+    pub(crate) end: Option<u64>,
 }
 
 impl<'a> Index<'a> {
@@ -28,16 +30,19 @@ impl<'a> Index<'a> {
         alloc: Global,
         side: Side,
         skipped: usize,
+        end: Option<u64>,
         lines: &[&'a [u8]],
     ) -> Result<Index<'a>, DiffFault>
         requires { skipped ≤ 2 ^ 62 }
         ensures index { IfOk result (λ index. IsIndex index (texts lines.now)) }
+        ensures end { IfOk result (λ index. index.end ≡ end) }
         ensures agrees { OnOk result (otherwise (texts lines.now) ≡ None) }
         ensures err { IfErr result (TellsSaid side skipped (texts lines.now)) }
     {
         let mut index = Index {
             known: BTreeMap::new(alloc),
             lines: Vec::new(alloc),
+            end,
         };
         for (place, line) in lines.iter().enumerate() {
             if !index.add(alloc, line)? {
@@ -58,6 +63,7 @@ impl<'a> Index<'a> {
             → OnOk result (IsIndex self.new (text ++ line.now ∷ [])) }
         ensures agrees { (text : List (List ℕ)) → IsIndex self.old text
             → IfOk result (λ agrees. agrees ≡ not (says_otherwise text line.now)) }
+        ensures end { self.new.end ≡ self.old.end }
     {
         let about = subject(line);
         match self.line_about(about) {

@@ -100,7 +100,8 @@ impl Merging {
         ensures from { OnOk result (self.new.from ≡ self.new.first.next) }
         ensures lines { OnOk result (passed_lines self.new ≡ passed_lines self.old + 1) }
     {
-        self.told.add_lone(alloc, MINUS, Section::Entries, line)?;
+        self.told
+            .add_lone(alloc, MINUS, None, Section::Entries, line)?;
         self.from = place + 1;
         self.first.on(place)?;
         Ok(())

@@ -52,6 +52,19 @@ fn place_of(word: &[u8]) -> Option<u64>
     number_of(word)
 }
 
+/// The place of a line, if it is of an entry that has one.
+#[tactic(auto, unfolding(crate::specs::Places::line_place))]
+pub(crate) fn line_place(line: &[u8]) -> Option<u64>
+    ensures value { result ≡ line_place line.now }
+    ensures bound { IfSome result (λ place. place < 2 ^ 32) }
+{
+    if line_kind(line).is_entry() {
+        place_of(subject(line))
+    } else {
+        None
+    }
+}
+
 /// From which place on places rise behind a line, if it does not fall behind lines where they rise
 /// from `next` on.
 #[tactic(auto, unfolding(crate::specs::Places::falls, crate::specs::Places::line_place))]

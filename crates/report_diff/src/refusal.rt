@@ -66,7 +66,7 @@ impl fmt::Display for Refusal {
                 Side::First => f.write_str("the first has no line end"),
                 Side::Second => f.write_str("the second has no end"),
             },
-            Flaw::GoesOn => write!(f, "the {side} goes on behind its end"),
+            Flaw::GoesOn => write!(f, "there is text after the end of the {side}"),
             Flaw::Versions { first, second } => {
                 let (first, second) = (first.number(), second.number());
                 write!(
@@ -80,7 +80,10 @@ impl fmt::Display for Refusal {
             }
             Flaw::Otherwise { line, subject } => {
                 let subject = subject.as_str();
-                write!(f, "line {line} of the {side} says otherwise of {subject}")
+                write!(
+                    f,
+                    "line {line} of the {side} contradicts an earlier one about {subject}"
+                )
             }
         }
     }

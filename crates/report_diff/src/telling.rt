@@ -16,8 +16,10 @@ use std::alloc::{AllocError, Global};
 pub(crate) enum Outcome {
     Equal,
     Different,
-    /// It is not compared.
-    Outside,
+    /// It is not compared: its result is not known, or not what it is to be.
+    Unchecked,
+    /// It is alike, and its result is copied from the trace.
+    Given,
 }
 
 /// How a line of a section compares.
@@ -25,6 +27,10 @@ pub(crate) enum Outcome {
 pub(crate) struct Finding {
     pub(crate) section: Section,
     pub(crate) outcome: Outcome,
+    /// Whether the bytes that an entry read are not compared.
+    pub(crate) bytes: bool,
+    /// Whether its sum is not compared.
+    pub(crate) sum: bool,
     /// Whether it is that of a large file whose bytes are not compared.
     pub(crate) large: bool,
 }
@@ -36,8 +42,7 @@ pub(crate) struct Told {
     pub(crate) text: Vec<u8>,
 }
 
-/// The signs before the lines of the first text, of the second, and before those that are not
-/// compared.
+/// The signs before the lines of the first text, of the second, and before those that are unchecked.
 pub(crate) const MINUS: u8 = b'-';
 
 const PLUS: u8 = b'+';
@@ -91,12 +96,12 @@ impl Told {
         let finding = pair_finding(alloc, section, one, other)?;
         self.counts.add(finding)?;
         match finding.outcome {
-            Outcome::Equal => Ok(()),
+            Outcome::Equal | Outcome::Given => Ok(()),
             Outcome::Different => {
                 self.tell(MINUS, one)?;
                 self.tell(PLUS, other)
             }
-            Outcome::Outside => self.tell(TILDE, other),
+            Outcome::Unchecked => self.tell(TILDE, other),
         }
     }
 
@@ -111,34 +116,38 @@ impl Told {
         line: &[u8],
     ) -> Result<(), AllocError>
         ensures { (text : List (List ℕ)) → IsIndex other.now text
-            → OnOk result (Adds self.old self.new (found_lacking sign text section line.now)) }
+            → OnOk result (Adds self.old self.new
+            (found_lacking other.now.end sign text section line.now)) }
     {
         if !other.has_section(section) {
             return Ok(());
         }
-        self.add_lone(alloc, sign, section, line)
+        self.add_lone(alloc, sign, other.end, section, line)
     }
 
-    /// A line whose subject the other report lacks.
+    /// A line whose subject the other report lacks, whose entries end there.
     pub(crate) fn add_lone(
         &mut self,
         alloc: Global,
         sign: u8,
+        end: Option<u64>,
         section: Section,
         line: &[u8],
     ) -> Result<(), AllocError>
-        ensures { OnOk result (Adds self.old self.new (found_lone sign section line.now)) }
+        ensures { OnOk result (Adds self.old self.new (found_lone end sign section line.now)) }
     {
-        let outcome = lone_outcome(alloc, line)?;
+        let outcome = lone_outcome(alloc, end, line)?;
         self.counts.add(Finding {
             section,
             outcome,
+            bytes: false,
+            sum: false,
             large: false,
         })?;
         match outcome {
-            Outcome::Equal => Ok(()),
+            Outcome::Equal | Outcome::Given => Ok(()),
             Outcome::Different => self.tell(sign, line),
-            Outcome::Outside => self.tell(TILDE, line),
+            Outcome::Unchecked => self.tell(TILDE, line),
         }
     }
 
@@ -151,7 +160,7 @@ impl Told {
         line: &[u8],
     ) -> Result<(), AllocError>
         ensures { (text : List (List ℕ)) → IsIndex second.now text
-            → OnOk result (Adds self.old self.new (of_first text line.now)) }
+            → OnOk result (Adds self.old self.new (of_first second.now.end text line.now)) }
     {
         let Some(section) = line_kind(line).section() else {
             return Ok(());
@@ -171,7 +180,7 @@ impl Told {
         line: &[u8],
     ) -> Result<(), AllocError>
         ensures { (text : List (List ℕ)) → IsIndex first.now text
-            → OnOk result (Adds self.old self.new (of_second text line.now)) }
+            → OnOk result (Adds self.old self.new (of_second first.now.end text line.now)) }
     {
         let Some(section) = line_kind(line).section() else {
             return Ok(());

@@ -33,7 +33,7 @@ loop-preserved g c =
     }
 
 pub returns-in_err-turn-clause-err : goal.returns-in_err-turn-clause-err
-returns-in_err-turn-clause-err g c = λ l r w at. search (rules, c.in_err-turn.ensures.err l r w (c.loop.invariant.stands l r w at))
+returns-in_err-turn-clause-err g c = λ terms l r w at. search (rules, c.in_err-turn.ensures.err terms l r w (c.loop.invariant.stands l r w at))
 
 pub returns-in_err-turn-clause-taken : goal.returns-in_err-turn-clause-taken
 returns-in_err-turn-clause-taken g c =

@@ -5,8 +5,8 @@ use Rattle.diff_stream.proofs.Standing.{awaits_line, came, first_passed, first_r
 use Rattle.diff_stream.proofs.merge.turn.Goals as goal
 
 pub returns-in_err-has_line-clause-err : goal.returns-in_err-has_line-clause-err
-returns-in_err-has_line-clause-err g c = λ l r w at.
-    search (rules, some_written c.args.form c.args.sides.now.first c.args.sides.now.second c.args.sides.now.merging l _ _ r _ _ w _ _ at c.in_err-has_line.ensures.taken (takes_none _) c.in_err-has_line.ensures.err)
+returns-in_err-has_line-clause-err g c = λ terms l r w at.
+    search (rules, some_written c.args.form terms c.args.sides.now.first c.args.sides.now.second c.args.sides.now.merging l _ _ r _ _ w _ _ at c.in_err-has_line.ensures.taken (takes_none _) c.in_err-has_line.ensures.err)
 
 pub returns-in_err-has_line-clause-taken : goal.returns-in_err-has_line-clause-taken
 returns-in_err-has_line-clause-taken g c = (c.in_err-has_line.ensures.taken, takes_none _)
@@ -27,12 +27,12 @@ offer_first-requires g c =
     awaits_line c.args.form c.has_line.new.side b c.has_line.new.merging _ _ _ _ _ _ c.in-Some.line.now is (sym c.in-Some.ensures)
 
 pub returns-in_err-offer_first-clause-err : goal.returns-in_err-offer_first-clause-err
-returns-in_err-offer_first-clause-err g c = λ l r w at.
+returns-in_err-offer_first-clause-err g c = λ terms l r w at.
     let a = c.args.sides.now.first in
     let b = c.args.sides.now.second in
     let came_on = came c.in_ok-has_line.field-0 a c.has_line.new.side (g.R.Source.left c.args.first.now) (g.R.Source.left c.has_line.new.reader) c.in_ok-has_line.ensures.line in
     let is = first_read c.args.form a b c.args.sides.now.merging c.has_line.new.merging c.has_line.new.side l _ _ r _ w _ _ at came_on c.in_ok-has_line.ensures.moves in
-    search (rules, some_written c.args.form c.has_line.new.side b c.has_line.new.merging l _ _ r _ _ w _ _ is (takes_none _) (takes_none _) (stops_none c.args.form c.has_line.new.merging _))
+    search (rules, some_written c.args.form terms c.has_line.new.side b c.has_line.new.merging l _ _ r _ _ w _ _ is (takes_none _) (takes_none _) (stops_none c.args.form c.has_line.new.merging _))
 
 pub returns-in-Taken-clause-ok : goal.returns-in-Taken-clause-ok
 returns-in-Taken-clause-ok g c = λ l r w at.
@@ -55,14 +55,14 @@ returns-in-Second-clause-ok g c = λ l r w at.
     c.turn_of_second.ensures.ok l _ r w c.in-Some.line.now on there offers.1
 
 pub returns-in-Second-clause-err : goal.returns-in-Second-clause-err
-returns-in-Second-clause-err g c = λ l r w at.
+returns-in-Second-clause-err g c = λ terms l r w at.
     let a = c.args.sides.now.first in
     let b = c.args.sides.now.second in
     let came_on = came c.in_ok-has_line.field-0 a c.has_line.new.side (g.R.Source.left c.args.first.now) (g.R.Source.left c.has_line.new.reader) c.in_ok-has_line.ensures.line in
     let is = first_read c.args.form a b c.args.sides.now.merging c.has_line.new.merging c.has_line.new.side l _ _ r _ w _ _ at came_on c.in_ok-has_line.ensures.moves in
     let offers = rw c.in-Second.is at (c.in_ok-offer_first.ensures.offer is.one is.other is.taken is.merges) in
     let there : first_line c.has_line.new.side.lines ≡ Some c.in-Some.line.now = sym c.in-Some.ensures in
-    c.turn_of_second.ensures.err l _ r w (remains c.args.form c.has_line.new.side b c.has_line.new.merging c.offer_first.new.self l _ r _ w _ is offers.0 (inr (c.in-Some.line.now, there, offers.1)))
+    c.turn_of_second.ensures.err terms l _ r w (remains c.args.form c.has_line.new.side b c.has_line.new.merging c.offer_first.new.self l _ r _ w _ is offers.0 (inr (c.in-Some.line.now, there, offers.1)))
 
 pub returns-in-Ended-clause-ok : goal.returns-in-Ended-clause-ok
 returns-in-Ended-clause-ok g c = λ l r w at.

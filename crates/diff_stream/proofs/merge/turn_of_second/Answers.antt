@@ -6,8 +6,8 @@ use Rattle.diff_stream.proofs.Standing.{came, level_of, second_passed, second_re
 use Rattle.diff_stream.proofs.merge.turn_of_second.Goals as goal
 
 pub returns-in_err-has_line-clause-err : goal.returns-in_err-has_line-clause-err
-returns-in_err-has_line-clause-err g c = λ l left r w at.
-    search (rules, some_written c.args.form c.args.sides.now.first c.args.sides.now.second c.args.sides.now.merging l left left r _ _ w _ _ at (takes_none left) c.in_err-has_line.ensures.taken c.in_err-has_line.ensures.err)
+returns-in_err-has_line-clause-err g c = λ terms l left r w at.
+    search (rules, some_written c.args.form terms c.args.sides.now.first c.args.sides.now.second c.args.sides.now.merging l left left r _ _ w _ _ at (takes_none left) c.in_err-has_line.ensures.taken c.in_err-has_line.ensures.err)
 
 pub returns-then-not-branch-clause-ok : goal.returns-then-not-branch-clause-ok
 returns-then-not-branch-clause-ok g c = λ l left r w line at there known.
@@ -24,13 +24,13 @@ pub offer_second-requires-clause-unbroken : goal.offer_second-requires-clause-un
 offer_second-requires-clause-unbroken g c = plain_line c.has_line.new.side.lines c.in-Some.line.now (sym c.in-Some.ensures)
 
 pub returns-in_err-offer_second-clause-err : goal.returns-in_err-offer_second-clause-err
-returns-in_err-offer_second-clause-err g c = λ l left r w at.
+returns-in_err-offer_second-clause-err g c = λ terms l left r w at.
     let a = c.args.sides.now.first in
     let b = c.args.sides.now.second in
     let m = c.args.sides.now.merging in
     let came_on = came c.in_ok-has_line.field-0 b c.has_line.new.side (g.S.Source.left c.args.second.now) (g.S.Source.left c.has_line.new.reader) c.in_ok-has_line.ensures.line in
     let is = second_read c.args.form a b m c.has_line.new.merging c.has_line.new.side l left r _ _ w _ _ at came_on c.in_ok-has_line.ensures.moves in
-    search (rules, some_written c.args.form a c.has_line.new.side c.has_line.new.merging l left left r _ _ w _ _ is (takes_none left) (takes_none _) (stops_none c.args.form c.has_line.new.merging _))
+    search (rules, some_written c.args.form terms a c.has_line.new.side c.has_line.new.merging l left left r _ _ w _ _ is (takes_none left) (takes_none _) (stops_none c.args.form c.has_line.new.merging _))
 
 pub returns-then-not-branch-2-clause-ok : goal.returns-then-not-branch-2-clause-ok
 returns-then-not-branch-2-clause-ok g c = λ l left r w line at there known.

@@ -5,11 +5,11 @@ use Rattle.diff_stream.proofs.Standing.{takes_none, takes_on}
 use Rattle.diff_stream.proofs.report.write_differences.Goals as goal
 
 pub returns-in_err-sides-clause-err : goal.returns-in_err-sides-clause-err
-returns-in_err-sides-clause-err g c = search (rules, nothing_written c.args.form (g.R.Source.left c.args.first.now) (g.R.Source.left c.args.first.now) (g.S.Source.left c.args.second.now) (g.S.Source.left c.args.second.now) (g.W.Sink.written c.args.writer.now) (takes_none (g.R.Source.left c.args.first.now)) (takes_none (g.S.Source.left c.args.second.now)))
+returns-in_err-sides-clause-err g c = search (rules, nothing_written c.args.form c.args.terms (g.R.Source.left c.args.first.now) (g.R.Source.left c.args.first.now) (g.S.Source.left c.args.second.now) (g.S.Source.left c.args.second.now) (g.W.Sink.written c.args.writer.now) (takes_none (g.R.Source.left c.args.first.now)) (takes_none (g.S.Source.left c.args.second.now)))
 
 pub returns-in_err-begins-clause-err : goal.returns-in_err-begins-clause-err
 returns-in_err-begins-clause-err g c =
-    search (rules, up_to c.args.form (g.R.Source.left c.args.first.now) (g.R.Source.left c.begins.new.reader) (g.S.Source.left c.args.second.now) (g.S.Source.left c.args.second.now) (g.W.Sink.written c.args.writer.now) (g.W.Sink.written c.args.writer.now) c.in_err-begins.field-0.0 c.in_err-begins.ensures.outside (nothing_written c.args.form (g.R.Source.left c.args.first.now) (g.R.Source.left c.begins.new.reader) (g.S.Source.left c.args.second.now) (g.S.Source.left c.args.second.now) (g.W.Sink.written c.args.writer.now) c.in_err-begins.ensures.taken (takes_none (g.S.Source.left c.args.second.now))))
+    search (rules, up_to c.args.form c.args.terms (g.R.Source.left c.args.first.now) (g.R.Source.left c.begins.new.reader) (g.S.Source.left c.args.second.now) (g.S.Source.left c.args.second.now) (g.W.Sink.written c.args.writer.now) (g.W.Sink.written c.args.writer.now) c.in_err-begins.field-0.0 c.in_err-begins.ensures.outside (nothing_written c.args.form c.args.terms (g.R.Source.left c.args.first.now) (g.R.Source.left c.begins.new.reader) (g.S.Source.left c.args.second.now) (g.S.Source.left c.args.second.now) (g.W.Sink.written c.args.writer.now) c.in_err-begins.ensures.taken (takes_none (g.S.Source.left c.args.second.now))))
 
 pub returns-in_err-begins-clause-taken : goal.returns-in_err-begins-clause-taken
 returns-in_err-begins-clause-taken g c = (c.in_err-begins.ensures.taken, takes_none (g.S.Source.left c.args.second.now))
@@ -33,7 +33,7 @@ returns-then-not-branch-clause-taken g c = (takes_on (g.R.Source.left c.args.fir
 
 pub returns-in_err-begins-2-clause-err : goal.returns-in_err-begins-2-clause-err
 returns-in_err-begins-2-clause-err g c =
-    search (rules, up_to c.args.form (g.R.Source.left c.args.first.now) (g.R.Source.left c.begins.new.reader) (g.S.Source.left c.args.second.now) (g.S.Source.left c.begins-2.new.reader) (g.W.Sink.written c.args.writer.now) (g.W.Sink.written c.args.writer.now) c.in_err-begins-2.field-0.0 c.in_err-begins-2.ensures.outside (nothing_written c.args.form (g.R.Source.left c.args.first.now) (g.R.Source.left c.begins.new.reader) (g.S.Source.left c.args.second.now) (g.S.Source.left c.begins-2.new.reader) (g.W.Sink.written c.args.writer.now) c.in_ok-begins.ensures.taken c.in_err-begins-2.ensures.taken))
+    search (rules, up_to c.args.form c.args.terms (g.R.Source.left c.args.first.now) (g.R.Source.left c.begins.new.reader) (g.S.Source.left c.args.second.now) (g.S.Source.left c.begins-2.new.reader) (g.W.Sink.written c.args.writer.now) (g.W.Sink.written c.args.writer.now) c.in_err-begins-2.field-0.0 c.in_err-begins-2.ensures.outside (nothing_written c.args.form c.args.terms (g.R.Source.left c.args.first.now) (g.R.Source.left c.begins.new.reader) (g.S.Source.left c.args.second.now) (g.S.Source.left c.begins-2.new.reader) (g.W.Sink.written c.args.writer.now) c.in_ok-begins.ensures.taken c.in_err-begins-2.ensures.taken))
 
 pub returns-then-not-branch-2-clause-err : goal.returns-then-not-branch-2-clause-err
 returns-then-not-branch-2-clause-err g c =
@@ -70,8 +70,8 @@ pub returns-in_err-merge-clause-err : goal.returns-in_err-merge-clause-err
 returns-in_err-merge-clause-err g c =
     search (
       rules,
-      up_to c.args.form (g.R.Source.left c.args.first.now) (g.R.Source.left c.merge.new.first) (g.S.Source.left c.args.second.now) (g.S.Source.left c.merge.new.second) (g.W.Sink.written c.args.writer.now) (g.W.Sink.written c.merge.new.writer) c.in_err-merge.field-0.0 c.in_err-merge.ensures.outside
-          (c.in_err-merge.ensures.err (g.R.Source.left c.args.first.now) (g.S.Source.left c.args.second.now) (g.W.Sink.written c.args.writer.now) (begun_stands c.args.form c.in_ok-sides.sides c.begins.new.side c.begins-2.new.side _ _ (g.R.Source.left c.args.first.now) (g.R.Source.left c.begins.new.reader) (g.S.Source.left c.args.second.now) (g.S.Source.left c.begins-2.new.reader) (g.W.Sink.written c.args.writer.now) c.in_ok-sides.ensures (rw c.if-not-branch.false at c.in_ok-begins.ensures.ok)
+      up_to c.args.form c.args.terms (g.R.Source.left c.args.first.now) (g.R.Source.left c.merge.new.first) (g.S.Source.left c.args.second.now) (g.S.Source.left c.merge.new.second) (g.W.Sink.written c.args.writer.now) (g.W.Sink.written c.merge.new.writer) c.in_err-merge.field-0.0 c.in_err-merge.ensures.outside
+          (c.in_err-merge.ensures.err c.args.terms (g.R.Source.left c.args.first.now) (g.S.Source.left c.args.second.now) (g.W.Sink.written c.args.writer.now) (begun_stands c.args.form c.in_ok-sides.sides c.begins.new.side c.begins-2.new.side _ _ (g.R.Source.left c.args.first.now) (g.R.Source.left c.begins.new.reader) (g.S.Source.left c.args.second.now) (g.S.Source.left c.begins-2.new.reader) (g.W.Sink.written c.args.writer.now) c.in_ok-sides.ensures (rw c.if-not-branch.false at c.in_ok-begins.ensures.ok)
           (rw c.if-not-branch-2.false at c.in_ok-begins-2.ensures.ok) c.pass.ensures refl c.pass-2.ensures refl)),
     )
 

@@ -7,4 +7,4 @@ use Rattle.report_diff.proofs.comparing.add_seconds.Given as goal
 
 abbrev pub invariant-loop-line : goal.invariant-loop-line
 invariant-loop-line l = (text : List (List ℕ)) → IsIndex l.first text
-    → Adds l.initial.told l.told (flat_map (of_second text) (texts (take l.line-index l.lines)))
+    → Adds l.initial.told l.told (flat_map (of_second l.first.end text) (texts (take l.line-index l.lines)))

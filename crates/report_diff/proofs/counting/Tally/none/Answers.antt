@@ -4,4 +4,4 @@ use Rattle.report_diff.proofs.counting.Tally.none.Goals as goal
 
 pub returns : goal.returns
 unfolding count
-returns c = λ section. record { equal = refl; different = refl; outside = refl }
+returns c = λ section. record { equal = refl; different = refl; unchecked = refl; given = refl }

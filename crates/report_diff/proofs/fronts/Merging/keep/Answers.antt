@@ -35,7 +35,7 @@ returns-clause-kept c = λ first second taken other is merges.
       reached = merges.reached;
       below_first = merges.below_first;
       below_second = merges.below_second;
-      finds = λ more back on on2. rw (append_assoc merges.kept (line ∷ []) back) (rw is at (merges.finds more back (from_less more m.from c.max-self.result up on) on2));
+      finds = λ ends covers more back on on2. rw (append_assoc merges.kept (line ∷ []) back) (rw is at (merges.finds ends covers more back (from_less more m.from c.max-self.result up on) on2));
       says_first = λ more on. merges.says_first more (from_less more m.from c.max-self.result up on);
       says_second = λ back on. rw (append_assoc merges.kept (line ∷ []) back) (rw is at (merges.says_second back on));
     }

@@ -24,7 +24,7 @@ returns-clause-merges c = record {
   reached = refl;
   below_first = refl;
   below_second = refl;
-  finds = λ more back on on2. refl;
+  finds = λ ends covers more back on on2. refl;
   says_first = λ more on. sym (further_none (otherwise (heading ∷ more)));
   says_second = λ back on. sym (further_none (otherwise (heading ∷ back)));
 }

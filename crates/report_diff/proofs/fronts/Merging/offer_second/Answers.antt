@@ -5,7 +5,7 @@ use Rattle.report_diff.specs.Merging.{heading, is_from}
 use Rattle.report_diff.specs.Places.{is_entry, line_place}
 use Rattle.report_diff.proofs.Early.{all_reach_more, of_first_more}
 use Rattle.report_diff.proofs.Rising.{from_less, front_pass, goes_on_if, passes_on}
-use Rattle.report_diff.proofs.MergeLemmas.{below_less, from_cons, one_below_more}
+use Rattle.report_diff.proofs.MergeLemmas.{below_less, covers_less, from_cons, one_below_more}
 use Rattle.report_diff.proofs.fronts.Merging.offer_second.Goals as goal
 
 pub returns-clause-follows : goal.returns-clause-follows
@@ -53,7 +53,7 @@ returns-clause-follows c = λ first second taken merges.
       reached = all_reach_more second (b ∷ []) first merges.reached;
       below_first = below_less first m.second.next c.on.new.self.next up merges.below_first;
       below_second = one_below_more second b q c.on.new.self.next (below_less second m.second.next c.on.new.self.next up merges.below_second) entry is lt;
-      finds = λ more back on on2. rw (append_assoc second (b ∷ []) back, same, held) (rw c.requires.ahead at (merges.finds more (b ∷ back) on (behind back on2)));
+      finds = λ ends covers more back on on2. rw (append_assoc second (b ∷ []) back, same, held) (rw c.requires.ahead at (merges.finds ends (covers_less ends.second m.second.next c.on.new.self.next up covers) more (b ∷ back) on (behind back on2)));
       says_first = merges.says_first;
       says_second = λ back on. rw (append_assoc second (b ∷ []) back, held) (rw c.requires.ahead at (merges.says_second (b ∷ back) (behind back on)));
     }

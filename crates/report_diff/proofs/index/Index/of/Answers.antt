@@ -11,7 +11,7 @@ use Rattle.report_diff.proofs.index.Index.of.Goals as goal
 
 pub loop-place-init : goal.loop-place-init
 unfolding line_about once otherwise
-loop-place-init c = record { index = record { known = λ about. rw c.new.ensures.empty refl; once = rw c.new-2.ensures.items refl }; agrees = refl }
+loop-place-init c = record { index = record { known = λ about. rw c.new.ensures.empty refl; once = rw c.new-2.ensures.items refl }; end = refl; agrees = refl }
 
 pub returns-then-not-branch-clause-err : goal.returns-then-not-branch-clause-err
 unfolding otherwise
@@ -34,5 +34,6 @@ loop-place-preserved c =
     let same : says_otherwise text line ≡ false = says_same _ (sym c.if-not-branch.false ∙ c.in_ok-add.ensures.agrees text c.loop-place.invariant.index) in
     rw (texts_more c.args.lines.now c.loop-place.place c.loop-place-test.true) record {
       index = c.in_ok-add.ensures.index text c.loop-place.invariant.index;
+      end = c.in_ok-add.ensures.end ∙ c.loop-place.invariant.end;
       agrees = none_more says_otherwise text line c.loop-place.invariant.agrees same;
     }

@@ -6,5 +6,6 @@ use Rattle.report_diff.proofs.index.Index.of.Given as goal
 abbrev pub invariant-loop-place : goal.invariant-loop-place
 invariant-loop-place l = record {
   index : IsIndex l.index (texts (take l.place l.lines));
+  end : l.index.end ≡ l.fn.end;
   agrees : otherwise (texts (take l.place l.lines)) ≡ None;
 }
