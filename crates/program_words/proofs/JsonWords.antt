@@ -12,7 +12,7 @@ use Rattle.program_words.specs.declared.words.Mode.{Mode}
 use Rattle.program_words.specs.declared.words.Mode.TheVariants.{Serial, Run, Compare, Rounds, Depends, Check}
 use Rattle.program_words.specs.declared.words.Task.{Task}
 use Rattle.program_words.specs.declared.words.Task.TheVariants.{Replay, Diff, Show, Make}
-use Rattle.program_words.specs.Words.{AreFound, AskForJson, AskForJsonMode, HasForm, IsFound, json_words, replayer, shown_words}
+use Rattle.program_words.specs.Words.{AreFound, AskForJson, AskForJsonMode, HasForm, IsFound, json_words, replayer, shown_words, terms_words}
 
 four : (n : ℕ) → n ≡ 4 → decimal n ≡ codes "4"
 four n e = ap decimal e ∙ decimal_digit 4 (omega arith)
@@ -46,10 +46,18 @@ mode_json (Rounds window dot) shown words (v, lines, plainly, e) =
 mode_json (Depends dot) shown words (lines, plainly, e) = rw (e, plainly, lines) ((refl, refl, refl), ((refl, refl, refl, refl), refl, inl refl))
 mode_json Check shown words (plainly, e) = rw (e, plainly) ((refl, refl), ((refl, refl, refl, refl), refl, inl refl))
 
+diff_json : (strict truncated : Bool) → let found = subcommand_of replayer (json_words (codes "diff") ++ terms_words strict truncated) in
+    IsFound forms.Json false (Diff (record { strict = strict; truncated = truncated })) found
+unfolding clap_on_literals
+diff_json false false = ((refl, (refl, refl)), ((refl, refl, refl, refl), refl, inl refl))
+diff_json false true = ((refl, (refl, refl)), ((refl, refl, refl, refl), refl, inl refl))
+diff_json true false = ((refl, (refl, refl)), ((refl, refl, refl, refl), refl, inl refl))
+diff_json true true = ((refl, (refl, refl)), ((refl, refl, refl, refl), refl, inl refl))
+
 pub json_found : (t : Task) (words : List (List ℕ)) → AskForJson t words → IsFound forms.Json false t (subcommand_of replayer words)
 unfolding clap_on_literals
 json_found (Replay o) words e = mode_json o.mode o.shown words e
-json_found Diff words e = rw e (refl, ((refl, refl, refl, refl), refl, inl refl))
+json_found (Diff terms) words e = rw e (diff_json terms.strict terms.truncated)
 json_found (Show look) words e = absurd e
 json_found Make words e = absurd e
 
@@ -71,9 +79,16 @@ mode_taken (Rounds window dot) shown words e = rw e.3 refl
 mode_taken (Depends dot) shown words e = rw e.2 refl
 mode_taken Check shown words e = rw e.1 refl
 
+diff_taken : (strict truncated : Bool) → takes replayer (json_words (codes "diff") ++ terms_words strict truncated) ≡ true
+unfolding clap_on_literals
+diff_taken false false = refl
+diff_taken false true = refl
+diff_taken true false = refl
+diff_taken true true = refl
+
 pub json_taken : (t : Task) (words : List (List ℕ)) → AskForJson t words → takes replayer words ≡ true
 unfolding clap_on_literals
 json_taken (Replay o) words e = mode_taken o.mode o.shown words e
-json_taken Diff words e = rw e refl
+json_taken (Diff terms) words e = rw e (diff_taken terms.strict terms.truncated)
 json_taken (Show look) words e = absurd e
 json_taken Make words e = absurd e

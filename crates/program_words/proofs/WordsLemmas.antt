@@ -21,6 +21,7 @@ use Rattle.clap.specs.declared.parser.matches.ArgMatches.{ArgMatches}
 use Rattle.clap.specs.declared.parser.matches.ArgMatches.TheViews.{out-ArgMatches}
 use Rattle.clap.proofs.OnLiterals.{clap_on_literals}
 use Rattle.trace_text.specs.declared.look.Look.{Look}
+use Rattle.report_diff.specs.declared.comparing.Terms.{Terms}
 use Rattle.program_words.specs.declared.words.Mode.{Mode}
 use Rattle.program_words.specs.declared.words.Mode.TheVariants.{Serial, Run, Compare, Rounds, Depends, Check}
 use Rattle.program_words.specs.declared.words.Options.{Options}
@@ -31,7 +32,7 @@ use Rattle.program_words.specs.declared.words.UsageKind.TheVariants.{Memory}
 use Rattle.replay_report.specs.declared.showing.Shown.{Shown}
 use Rattle.replay_report.specs.declared.showing.SumsShown.{SumsShown}
 use Rattle.replay_report.specs.declared.showing.SumsShown.TheVariants as shows
-use Rattle.program_words.specs.Words.{AreFound, AreRoundOptions, AskFor, AskForCut, AskForHelp, AskForMode, AskForText, AskForVersion, HasForm, HasLook, HasNumbers, HasShown, HasSums, IsCut, IsForm, IsFound, IsNamed, IsTaskFound, IsNumberOption, cut_words, dot_words, places_words, flag_text, form_of_flag, kind_meant, name_in, plain, replayer, shown_words, text_in}
+use Rattle.program_words.specs.Words.{AreFound, AreRoundOptions, AskFor, AskForCut, AskForHelp, AskForMode, AskForText, AskForVersion, HasForm, HasLook, HasNumbers, HasShown, HasSums, HasTerms, IsCut, IsForm, IsFound, IsNamed, IsTaskFound, IsNumberOption, cut_words, dot_words, places_words, flag_text, form_of_flag, kind_meant, name_in, plain, replayer, shown_words, terms_words, text_in}
 use Rattle.program_words.specs.Limits.{IsWindow}
 use Rattle.json_lines.specs.declared.form.Form.{Form}
 use Rattle.json_lines.specs.declared.form.Form.TheVariants as forms
@@ -251,18 +252,34 @@ unfolding clap_on_literals
 show_taken false = refl
 show_taken true = refl
 
+-- and for those of `diff`
+diff_found : (strict truncated : Bool) → let found = subcommand_of replayer (codes "diff" ∷ terms_words strict truncated) in
+    IsFound forms.Text false (Diff (record { strict = strict; truncated = truncated })) found
+unfolding clap_on_literals
+diff_found false false = ((refl, (refl, refl)), ((refl, refl, refl, refl), inr refl, inl refl))
+diff_found false true = ((refl, (refl, refl)), ((refl, refl, refl, refl), inr refl, inl refl))
+diff_found true false = ((refl, (refl, refl)), ((refl, refl, refl, refl), inr refl, inl refl))
+diff_found true true = ((refl, (refl, refl)), ((refl, refl, refl, refl), inr refl, inl refl))
+
+diff_taken : (strict truncated : Bool) → takes replayer (codes "diff" ∷ terms_words strict truncated) ≡ true
+unfolding clap_on_literals
+diff_taken false false = refl
+diff_taken false true = refl
+diff_taken true false = refl
+diff_taken true true = refl
+
 -- the same for each task
 text_found : (t : Task) (words : List (List ℕ)) → AskForText t words → IsFound forms.Text false t (subcommand_of replayer words)
 unfolding clap_on_literals
 text_found (Replay o) words e = (options_found o.mode o.shown words e, files_found o.mode o.shown words e)
-text_found Diff words e = rw e (refl, ((refl, refl, refl, refl), inr refl, inl refl))
+text_found (Diff terms) words e = rw e (diff_found terms.strict terms.truncated)
 text_found (Show look) words e = rw e.1 (((show_found look.places).0, ((show_found look.places).1, e.0, (show_found look.places).2)), show_files look.places)
 text_found Make words e = rw e (refl, ((refl, refl, refl, refl), inl refl, inl refl))
 
 text_taken : (t : Task) (words : List (List ℕ)) → AskForText t words → takes replayer words ≡ true
 unfolding clap_on_literals
 text_taken (Replay o) words e = words_taken o.mode o.shown words e
-text_taken Diff words e = rw e refl
+text_taken (Diff terms) words e = rw e (diff_taken terms.strict terms.truncated)
 text_taken (Show look) words e = rw e.1 (show_taken look.places)
 text_taken Make words e = rw e refl
 
@@ -299,13 +316,13 @@ cut_taken forms.Json shows.All true = refl
 
 cut_task_found : (form : Form) (t : Task) (words : List (List ℕ)) → AskForCut form t words → IsFound form true t (subcommand_of replayer words)
 cut_task_found form (Replay o) words e = rw (e.0, e.1) (cut_found form o.shown.sums o.shown.names)
-cut_task_found form Diff words e = absurd e
+cut_task_found form (Diff terms) words e = absurd e
 cut_task_found form (Show look) words e = absurd e
 cut_task_found form Make words e = absurd e
 
 cut_task_taken : (form : Form) (t : Task) (words : List (List ℕ)) → AskForCut form t words → takes replayer words ≡ true
 cut_task_taken form (Replay o) words e = rw e.1 (cut_taken form o.shown.sums o.shown.names)
-cut_task_taken form Diff words e = absurd e
+cut_task_taken form (Diff terms) words e = absurd e
 cut_task_taken form (Show look) words e = absurd e
 cut_task_taken form Make words e = absurd e
 
@@ -464,6 +481,17 @@ show_is_no_mode Check e = absurd (cc e)
 show_is_no_diff : codes "show" ≡ codes "diff" → ⊥
 show_is_no_diff e = let first : 115 ≡ 100 = ap (λ (xs : List ℕ). slice_index xs 0) e in omega (arith, first)
 
+diff_is_no_mode : (mode : Mode) → codes "diff" ≡ name_of mode → ⊥
+diff_is_no_mode Serial e = absurd (cc e)
+diff_is_no_mode (Run w v eager) e = absurd (cc e)
+diff_is_no_mode (Compare w v eager) e = absurd (cc e)
+diff_is_no_mode (Rounds v dot) e = absurd (cc e)
+diff_is_no_mode (Depends dot) e = absurd (cc e)
+diff_is_no_mode Check e = absurd (cc e)
+
+diff_is_no_make : codes "diff" ≡ codes "make" → ⊥
+diff_is_no_make e = let first : 100 ≡ 109 = ap (λ (xs : List ℕ). slice_index xs 0) e in omega (arith, first)
+
 show_is_no_make : codes "show" ≡ codes "make" → ⊥
 show_is_no_make e = let first : 115 ≡ 109 = ap (λ (xs : List ℕ). slice_index xs 0) e in omega (arith, first)
 
@@ -559,11 +587,27 @@ module _ (m chosen : ArgMatches) (rows : IsChosen m chosen) where
   pub look_chosen : (given : Look) (task : Task) → subcommand_name_of m ≡ Some (codes "show") → ((look : Look) → HasLook look (one_text (found_of chosen)) → given ≡ look)
       → IsTaskFound task (subcommand_rows_of m) → ◌≡◌ {A = Task} (Show given) task
   look_chosen given (Replay options) name read h = absurd (show_is_no_mode options.mode (same_Some _ _ (sym name ∙ found_name m options.mode options.shown h)))
-  look_chosen given Diff name read h = absurd (show_is_no_diff (same_Some _ _ (sym name ∙ sym (named m) ∙ h)))
+  look_chosen given (Diff terms) name read h = absurd (show_is_no_diff (same_Some _ _ (sym name ∙ sym (named m) ∙ h.0)))
   look_chosen given Make name read h = absurd (show_is_no_make (same_Some _ _ (sym name ∙ sym (named m) ∙ h)))
   look_chosen given (Show look) name read h =
       let no_first = one_text-rows (found_of chosen) (codes "first") ∙ no_text_at (codes "first") (subcommand_rows_of m) (rows_of (found_of chosen)) (sym rows) h.1.2 in
       ap Show (read look (text_is m chosen (codes "places") (flag_text look.places) rows h.1.0, h.1.1, no_first))
+
+  -- how two reports are compared, where it is `diff`
+  pub terms_chosen : (given : Terms) (task : Task) → subcommand_name_of m ≡ Some (codes "diff") → ((terms : Terms) → HasTerms terms (one_text (found_of chosen)) → given ≡ terms)
+      → IsTaskFound task (subcommand_rows_of m) → ◌≡◌ {A = Task} (Diff given) task
+  terms_chosen given (Replay options) name read h = absurd (diff_is_no_mode options.mode (same_Some _ _ (sym name ∙ found_name m options.mode options.shown h)))
+  terms_chosen given (Show look) name read h = absurd (show_is_no_diff (sym (same_Some _ _ (sym name ∙ sym (named m) ∙ h.0))))
+  terms_chosen given Make name read h = absurd (diff_is_no_make (same_Some _ _ (sym name ∙ sym (named m) ∙ h)))
+  terms_chosen given (Diff terms) name read h =
+      ap Diff (read terms (text_is m chosen (codes "strict") (flag_text terms.strict) rows h.1.0, text_is m chosen (codes "truncated") (flag_text terms.truncated) rows h.1.1))
+
+-- how two reports are compared, by its flags
+pub terms_made : (strict truncated : Bool) (terms : Terms) (text : List ℕ → Option (List ℕ)) → HasTerms terms text → Tells text (codes "strict") strict
+    → Tells text (codes "truncated") truncated → ◌≡◌ {A = Terms} (record { strict = strict; truncated = truncated }) terms
+terms_made strict truncated terms text h one other =
+    ap₂ (λ s t. record { strict = s; truncated = t }) (read_as_flag strict terms.strict (text (codes "strict")) h.0 one.0 one.1)
+    (read_as_flag truncated terms.truncated (text (codes "truncated")) h.1 other.0 other.1)
 
 -- a number in decimal is read as that number
 pub read_number : {E : Type 0} (G : List ℕ → Result ℕ E → Type 0) (n : ℕ) (r : Option ℕ) → ReadsOne G (decimal n) r → ((u : List ℕ) (x : Result ℕ E) → G u x → ParsesUnsigned 32 10 u x) → n < 2 ^ 32 → r ≡ Some n

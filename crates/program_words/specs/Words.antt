@@ -20,6 +20,7 @@ use Rattle.program_words.specs.declared.words.Request.{Request}
 use Rattle.program_words.specs.declared.words.Task.{Task}
 use Rattle.program_words.specs.declared.words.Task.TheVariants.{Replay, Diff, Show, Make}
 use Rattle.trace_text.specs.declared.look.Look.{Look}
+use Rattle.report_diff.specs.declared.comparing.Terms.{Terms}
 use Rattle.program_words.specs.declared.words.Usage.{Usage}
 use Rattle.program_words.specs.declared.words.UsageKind.{UsageKind}
 use Rattle.replay_report.specs.Report.{escaped, shown_with}
@@ -31,7 +32,7 @@ use Rattle.program_words.specs.Limits.{IsWindow, AreServed, IsServed}
 
 abbrev pub IsServedTask : Task → Type 0
 IsServedTask (Replay options) = IsServed options.mode
-IsServedTask Diff = ⊤
+IsServedTask (Diff terms) = ⊤
 IsServedTask (Show look) = ⊤
 IsServedTask Make = ⊤
 
@@ -78,10 +79,17 @@ abbrev pub places_words : Bool → List (List ℕ)
 places_words false = []
 places_words true = codes "--places" ∷ []
 
+-- The words that say how two reports are compared.
+abbrev pub terms_words : (strict truncated : Bool) → List (List ℕ)
+terms_words false false = []
+terms_words false true = codes "--truncated" ∷ []
+terms_words true false = codes "--strict" ∷ []
+terms_words true true = codes "--strict" ∷ codes "--truncated" ∷ []
+
 -- The words that ask for a task, whose output is text. Which words ask for the first bytes alone is not said here.
 abbrev pub AskForText : Task → List (List ℕ) → Type 0
 AskForText (Replay options) words = AskForMode options.mode options.shown words
-AskForText Diff words = words ≡ codes "diff" ∷ []
+AskForText (Diff terms) words = words ≡ codes "diff" ∷ terms_words terms.strict terms.truncated
 AskForText (Show look) words = (look.first ≡ None) × (words ≡ codes "show" ∷ places_words look.places)
 AskForText Make words = words ≡ codes "make" ∷ []
 
@@ -99,7 +107,7 @@ AskForJsonMode Check shown words = (shown ≡ plain) × (words ≡ json_words (c
 
 abbrev pub AskForJson : Task → List (List ℕ) → Type 0
 AskForJson (Replay options) words = AskForJsonMode options.mode options.shown words
-AskForJson Diff words = words ≡ json_words (codes "diff")
+AskForJson (Diff terms) words = words ≡ json_words (codes "diff") ++ terms_words terms.strict terms.truncated
 AskForJson (Show look) words = ⊥
 AskForJson Make words = ⊥
 
@@ -110,7 +118,7 @@ cut_words forms.Json = codes "serial" ∷ codes "--cut" ∷ codes "--json" ∷ [
 
 abbrev pub AskForCut : Form → Task → List (List ℕ) → Type 0
 AskForCut form (Replay options) words = (options.mode ≡ Serial) × (words ≡ cut_words form ++ shown_words options.shown.sums options.shown.names)
-AskForCut form Diff words = ⊥
+AskForCut form (Diff terms) words = ⊥
 AskForCut form (Show look) words = ⊥
 AskForCut form Make words = ⊥
 
@@ -183,6 +191,10 @@ HasShown shown text = HasSums shown.sums text × (text (codes "names") ≡ Some 
 abbrev pub HasLook : Look → (List ℕ → Option (List ℕ)) → Type 0
 HasLook look text = (text (codes "places") ≡ Some (flag_text look.places)) × (look.first ≡ None) × (text (codes "first") ≡ None)
 
+-- And those that say how two reports are compared.
+abbrev pub HasTerms : Terms → (List ℕ → Option (List ℕ)) → Type 0
+HasTerms terms text = (text (codes "strict") ≡ Some (flag_text terms.strict)) × (text (codes "truncated") ≡ Some (flag_text terms.truncated))
+
 abbrev pub HasDot : Bool → Option (List ℕ × List Row) → Type 0
 HasDot dot found = text_in (codes "dot") found ≡ Some (flag_text dot)
 
@@ -216,7 +228,7 @@ AreFound Check shown found = IsNamed (codes "check") found × (shown ≡ plain)
 
 abbrev pub IsTaskFound : Task → Option (List ℕ × List Row) → Type 0
 IsTaskFound (Replay options) found = AreFound options.mode options.shown found
-IsTaskFound Diff found = IsNamed (codes "diff") found
+IsTaskFound (Diff terms) found = IsNamed (codes "diff") found × HasTerms terms (λ id. text_in id found)
 IsTaskFound (Show look) found = IsNamed (codes "show") found × HasLook look (λ id. text_in id found)
 IsTaskFound Make found = IsNamed (codes "make") found
 
@@ -291,6 +303,12 @@ first_option = record (new_rule (codes "first")) { long = Some (codes "first"); 
 abbrev pub show_option : Rule
 show_option = record (new_rule (codes "show")) { long = Some (codes "show"); value_names = 1 }
 
+abbrev pub strict_flag : Rule
+strict_flag = record (new_rule (codes "strict")) { long = Some (codes "strict"); action = Some SetTrue }
+
+abbrev pub truncated_flag : Rule
+truncated_flag = record (new_rule (codes "truncated")) { long = Some (codes "truncated"); action = Some SetTrue }
+
 abbrev pub serial_command : App
 serial_command = with_rule (with_rule (with_rule (new_app (codes "serial")) sums_flag) all_sums_flag) names_flag
 
@@ -318,7 +336,7 @@ abbrev pub make_command : App
 make_command = new_app (codes "make")
 
 abbrev pub diff_command : App
-diff_command = with_rule (new_app (codes "diff")) show_option
+diff_command = with_rule (with_rule (with_rule (new_app (codes "diff")) strict_flag) truncated_flag) show_option
 
 -- A command with the names of its input and of its output.
 abbrev pub with_files : App → App

@@ -10,7 +10,8 @@ ghost use Rattle.program_words.specs.Words.{HasApp, HasNoFiles, HasNoNames, IsFo
 ghost use Rattle.program_words.specs.Words.{HasShown, HasSums, IsTaskFound, all_sums_flag};
 ghost use Rattle.program_words.specs.Words.{names_flag};
 ghost use Rattle.program_words.specs.Words.{HasLook, first_option, make_command, places_flag};
-ghost use Rattle.program_words.specs.Words.{show_command, show_option};
+ghost use Rattle.program_words.specs.Words.{HasTerms, show_command, show_option, strict_flag};
+ghost use Rattle.program_words.specs.Words.{truncated_flag};
 ghost use Rattle.program_words.specs.Words.{IsForm, form_of_flag, json_flag, text_in, with_form};
 ghost use Rattle.program_words.specs.Words.{IsCut, cut_flag, with_cut};
 ghost use Rattle.program_words.specs.Words.{IsRule, IsServedTask, check_command, compare_command};
@@ -27,6 +28,7 @@ use clap::error::ErrorKind;
 use clap::{Arg, ArgAction, ArgMatches, Command, Error, value_parser};
 use json_lines::Form;
 use replay_report::{Shown, SumsShown, escaped};
+use report_diff::Terms;
 use std::alloc::{AllocError, Global};
 use trace_text::Look;
 
@@ -78,7 +80,7 @@ pub enum Task {
     /// A mode, with a trace.
     Replay(Options),
     /// A comparison of two reports.
-    Diff,
+    Diff(Terms),
     /// A trace as text.
     Show(Look),
     /// A trace from text.
@@ -169,7 +171,8 @@ const MOST_PLACES: u32 = 4096;
 
 /// Reads the words after the program's name: `serial` and `run`, each with `--sums`, `--all-sums` and
 /// `--names` or without, `compare`, `rounds` and `depends`, with `--dot` or without, `show` with `--places`
-/// or without, `check`, `make` or `diff`. `run` and
+/// or without, `check`, `make` or `diff`, with `--strict`
+/// and `--truncated` or without. `run` and
 /// `compare` come with the numbers of workers and of places or without, `rounds` with that of places.
 /// Each has the names of its input and output or not. Each but `compare`, `show` and `make` comes with
 /// `--json` or without, `serial` and `run` also with `--cut`. Any other words are wrong, unless they ask for help or for the version.
@@ -279,10 +282,20 @@ fn task_in(matches: &ArgMatches<'_>) -> Task
     ensures served { IsServedTask result }
 {
     match matches.subcommand() {
-        Some(("diff", _)) => Task::Diff,
+        Some(("diff", chosen)) => Task::Diff(terms_in(chosen)),
         Some(("show", chosen)) => Task::Show(look_in(chosen)),
         Some(("make", _)) => Task::Make,
         _ => Task::Replay(options_in(matches)),
+    }
+}
+
+/// How two reports are to be compared.
+fn terms_in(matches: &ArgMatches<'_>) -> Terms
+    ensures { (terms : Terms) → HasTerms terms (one_text (found_of matches.now)) → result ≡ terms }
+{
+    Terms {
+        strict: matches.get_flag("strict"),
+        truncated: matches.get_flag("truncated"),
     }
 }
 
@@ -572,7 +585,9 @@ fn diff_command<'a>(alloc: Global) -> Result<Command<'a>, AllocError>
 {
     Command::new(alloc, "diff")
         .after_help("Example: uring_replay diff a.report b.report")
-        .about("Compare two reports. What only one of them tells is no difference")
+        .about("Compare two reports; facts that only one of them has are ignored, and counted")
+        .arg(strict_flag(alloc))?
+        .arg(truncated_flag(alloc))?
         .arg(show_option(alloc))
 }
 
@@ -658,6 +673,24 @@ fn show_option<'a>(alloc: Global) -> Arg<'a>
         .long("show")
         .value_name("TRACE")
         .help("Print the entry of this trace below each line that differs and is of one")
+}
+
+fn strict_flag<'a>(alloc: Global) -> Arg<'a>
+    ensures { IsRule strict_flag result }
+{
+    Arg::new(alloc, "strict")
+        .long("strict")
+        .action(ArgAction::SetTrue)
+        .help("End with status 4 also where bytes or sums are not compared")
+}
+
+fn truncated_flag<'a>(alloc: Global) -> Arg<'a>
+    ensures { IsRule truncated_flag result }
+{
+    Arg::new(alloc, "truncated")
+        .long("truncated")
+        .action(ArgAction::SetTrue)
+        .help("Accept a second report without its line `end`, of a recording that was killed")
 }
 
 fn workers_option<'a>(alloc: Global) -> Arg<'a>

@@ -2,6 +2,7 @@
 use Rattle.std.specs.Prelude.{ℕ, false, List, Option}
 use Rattle.diff_stream.specs.Compared.{WritesComparison, WritesRefused, WritesSome}
 use Rattle.json_lines.specs.declared.form.Form.{Form}
+use Rattle.report_diff.specs.declared.comparing.Terms.{Terms}
 use Rattle.diff_stream.specs.declared.fault.CompareFault.{CompareFault}
 use Rattle.diff_stream.specs.declared.fault.CompareFault.TheVariants as compare
 use Rattle.replay_program.specs.declared.fault.RunFault.{RunFault}
@@ -16,12 +17,12 @@ compare_told compare.Read = Read
 compare_told compare.Write = Write
 
 -- What was written, in this form, before a fault: the whole text where the reports differ; what is told early of them where they are refused; else a beginning of what the bytes so far tell.
-abbrev pub DiffUpTo : Form → (left left' more more' written written' : Option (List ℕ)) → RunFault → Type 0
-DiffUpTo form left left' more more' written written' Different = WritesComparison form left left' more more' written written' false
-DiffUpTo form left left' more more' written written' (Reports (Refused why)) = WritesRefused form why left left' more more' written written'
-DiffUpTo form left left' more more' written written' (Reports Memory) = WritesSome form left left' more more' written written'
-DiffUpTo form left left' more more' written written' (Reports TooLong) = ⊥
-DiffUpTo form left left' more more' written written' Read = WritesSome form left left' more more' written written'
-DiffUpTo form left left' more more' written written' Write = WritesSome form left left' more more' written written'
-DiffUpTo form left left' more more' written written' (Trace f) = ⊥
-DiffUpTo form left left' more more' written written' (Replay f) = ⊥
+abbrev pub DiffUpTo : Form → Terms → (left left' more more' written written' : Option (List ℕ)) → RunFault → Type 0
+DiffUpTo form terms left left' more more' written written' Different = WritesComparison form terms left left' more more' written written' false
+DiffUpTo form terms left left' more more' written written' (Reports (Refused why)) = WritesRefused form terms why left left' more more' written written'
+DiffUpTo form terms left left' more more' written written' (Reports Memory) = WritesSome form terms left left' more more' written written'
+DiffUpTo form terms left left' more more' written written' (Reports TooLong) = ⊥
+DiffUpTo form terms left left' more more' written written' Read = WritesSome form terms left left' more more' written written'
+DiffUpTo form terms left left' more more' written written' Write = WritesSome form terms left left' more more' written written'
+DiffUpTo form terms left left' more more' written written' (Trace f) = ⊥
+DiffUpTo form terms left left' more more' written written' (Replay f) = ⊥

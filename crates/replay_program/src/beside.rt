@@ -10,6 +10,7 @@ use crate::fault::{ReportsFault, RunFault};
 use byte_transfer::{Sink, Source};
 use diff_stream::{CompareFault, write_differences};
 use json_lines::Form;
+use report_diff::Terms;
 use std::alloc::Global;
 
 /// Compares two reports, each from a reader of its own, and writes where they differ, in the form
@@ -26,19 +27,20 @@ pub fn run_diff_beside<R: Source, S: Source, W: Sink>(
     second: &mut S,
     writer: &mut W,
     form: Form,
+    terms: Terms,
 ) -> Result<(), RunFault>
     requires first { R.failures first.old < 2 ^ 64 - 1 }
     requires second { S.failures second.old < 2 ^ 64 - 1 }
     requires writer { W.failures writer.old < 2 ^ 64 - 1 }
-    ensures alike { OnOk result (WritesComparison form (R.left first.old) (R.left first.new)
+    ensures alike { OnOk result (WritesComparison form terms (R.left first.old) (R.left first.new)
         (S.left second.old) (S.left second.new) (W.written writer.old) (W.written writer.new) true) }
-    ensures err { IfErr result (DiffUpTo form (R.left first.old) (R.left first.new)
+    ensures err { IfErr result (DiffUpTo form terms (R.left first.old) (R.left first.new)
         (S.left second.old) (S.left second.new) (W.written writer.old) (W.written writer.new)) }
     ensures taken { Takes (R.left first.old) (R.left first.new)
         × Takes (S.left second.old) (S.left second.new) }
     ensures write { W.failures writer.new ≡ W.failures writer.old + write_failures result }
 {
-    match write_differences(alloc, first, second, writer, form) {
+    match write_differences(alloc, first, second, writer, form, terms) {
         Ok(true) => Ok(()),
         Ok(false) => Err(RunFault::Different),
         Err(fault) => Err(told_as(fault)),

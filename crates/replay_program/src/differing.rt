@@ -12,7 +12,7 @@ use crate::fault::{ReportsFault, RunFault};
 use crate::session::written;
 use byte_transfer::{MOST_BYTES, Sink, Source, TextFault, read_text};
 use json_lines::{Form, text_as};
-use report_diff::{Comparison, DiffFault, compare, compare_two};
+use report_diff::{Comparison, DiffFault, Terms, compare, compare_two};
 use std::alloc::{AllocError, Global};
 
 /// Reads two reports, one after another, compares them and writes where they differ. Nothing is
@@ -27,29 +27,30 @@ pub fn run_diff<R: Source, W: Sink>(
     reader: &mut R,
     writer: &mut W,
     form: Form,
+    terms: Terms,
 ) -> Result<(), RunFault>
     requires reader { R.failures reader.old < 2 ^ 64 - 1 }
     requires writer { W.failures writer.old < 2 ^ 64 - 1 }
 
     // The text is the one of the two reports that the reader's bytes are.
-    ensures alike { OnOk result (WritesDifferences form true (R.left reader.old)
+    ensures alike { OnOk result (WritesDifferences form terms true (R.left reader.old)
         (R.left reader.new) (W.written writer.old) (W.written writer.new)) }
     ensures different { result ≡ Err RunFault.Different
-        → WritesDifferences form false (R.left reader.old)
+        → WritesDifferences form terms false (R.left reader.old)
         (R.left reader.new) (W.written writer.old) (W.written writer.new) }
-    ensures part { result ≡ Err RunFault.Write → WritesDifferencesPart form (R.left reader.old)
+    ensures part { result ≡ Err RunFault.Write → WritesDifferencesPart form terms (R.left reader.old)
         (R.left reader.new) (W.written writer.old) (W.written writer.new) }
     ensures nothing { IfErr result (λ fault. fault ≢ RunFault.Write → fault ≢ RunFault.Different
         → Keeps (W.written writer.old) (W.written writer.new)) }
 
     ensures taken { ConsumesUpTo most_taken (R.left reader.old) (R.left reader.new) }
-    ensures reading { IfErr result (TellsOfReports (R.left reader.old) (R.left reader.new)) }
+    ensures reading { IfErr result (TellsOfReports terms (R.left reader.old) (R.left reader.new)) }
     ensures read { R.failures reader.new ≡ R.failures reader.old + read_failures result }
     ensures write { W.failures writer.new ≡ W.failures writer.old + write_failures result }
 {
-    let comparison = taken_comparison(alloc, reader, form)?;
+    let comparison = taken_comparison(alloc, reader, form, terms)?;
     written(writer, comparison.text.as_slice())?;
-    if comparison.alike {
+    if comparison.passes {
         Ok(())
     } else {
         Err(RunFault::Different)
@@ -62,12 +63,13 @@ pub(crate) fn taken_comparison<R: Source>(
     alloc: Global,
     reader: &mut R,
     form: Form,
+    terms: Terms,
 ) -> Result<Comparison, RunFault>
     requires { R.failures reader.old < 2 ^ 64 - 1 }
     ensures ok { IfOk result
-        (λ comparison. ComparesReports form (R.left reader.old) (R.left reader.new) comparison) }
+        (λ comparison. ComparesReports form terms (R.left reader.old) (R.left reader.new) comparison) }
     ensures taken { ConsumesUpTo most_taken (R.left reader.old) (R.left reader.new) }
-    ensures err { IfErr result (TellsOfReports (R.left reader.old) (R.left reader.new)) }
+    ensures err { IfErr result (TellsOfReports terms (R.left reader.old) (R.left reader.new)) }
     ensures read { R.failures reader.new ≡ R.failures reader.old + read_failures result }
     ensures write { write_failures result ≡ 0 }
     ensures neither { IfErr result
@@ -81,7 +83,7 @@ pub(crate) fn taken_comparison<R: Source>(
     if input.len() == MOST_BYTES {
         return Err(RunFault::Reports(ReportsFault::TooLong));
     }
-    match compare(alloc, input.as_slice()) {
+    match compare(alloc, terms, input.as_slice()) {
         Ok(comparison) => comparison_as(alloc, form, comparison),
         Err(DiffFault::Refused(why)) => Err(RunFault::Reports(ReportsFault::Refused(why))),
         Err(DiffFault::Memory) => Err(RunFault::Reports(ReportsFault::Memory)),
@@ -92,13 +94,13 @@ pub(crate) fn taken_comparison<R: Source>(
 fn comparison_as(alloc: Global, form: Form, comparison: Comparison) -> Result<Comparison, RunFault>
     ensures text { IfOk result
         (λ found. found.text.items ≡ written_as form comparison.text.items) }
-    ensures alike { IfOk result (λ found. found.alike ≡ comparison.alike) }
+    ensures alike { IfOk result (λ found. found.passes ≡ comparison.passes) }
     ensures err { IfErr result (λ fault. fault ≡ RunFault.Reports ReportsFault.Memory) }
 {
     match text_as(alloc, form, comparison.text) {
         Ok(text) => Ok(Comparison {
             text,
-            alike: comparison.alike,
+            passes: comparison.passes,
         }),
         Err(AllocError) => Err(RunFault::Reports(ReportsFault::Memory)),
     }
@@ -109,14 +111,15 @@ pub(crate) fn comparison_of_two<R: Source, S: Source>(
     alloc: Global,
     first: &mut R,
     second: &mut S,
+    terms: Terms,
 ) -> Result<Comparison, RunFault>
     requires first { R.failures first.old < 2 ^ 64 - 1 }
     requires second { S.failures second.old < 2 ^ 64 - 1 }
-    ensures ok { IfOk result (ComparesTwoReports (R.left first.old) (R.left first.new)
+    ensures ok { IfOk result (ComparesTwoReports terms (R.left first.old) (R.left first.new)
         (S.left second.old) (S.left second.new)) }
     ensures taken { ConsumesUpTo most_taken (R.left first.old) (R.left first.new)
         × ConsumesUpTo most_taken (S.left second.old) (S.left second.new) }
-    ensures err { IfErr result (TellsOfTwoReports (R.left first.old) (R.left first.new)
+    ensures err { IfErr result (TellsOfTwoReports terms (R.left first.old) (R.left first.new)
         (S.left second.old) (S.left second.new)) }
     ensures write { write_failures result ≡ 0 }
     ensures neither { IfErr result
@@ -124,7 +127,7 @@ pub(crate) fn comparison_of_two<R: Source, S: Source>(
 {
     let one = report_text(alloc, first)?;
     let other = report_text(alloc, second)?;
-    match compare_two(alloc, one.as_slice(), other.as_slice()) {
+    match compare_two(alloc, terms, one.as_slice(), other.as_slice()) {
         Ok(comparison) => Ok(comparison),
         Err(DiffFault::Refused(why)) => Err(RunFault::Reports(ReportsFault::Refused(why))),
         Err(DiffFault::Memory) => Err(RunFault::Reports(ReportsFault::Memory)),

@@ -15,7 +15,7 @@ use crate::fault::{ReportsFault, RunFault};
 use crate::session::written;
 use byte_transfer::{Sink, Source};
 use json_lines::Form;
-use report_diff::Comparison;
+use report_diff::{Comparison, Terms};
 use std::alloc::{AllocError, Global};
 
 /// Reads a trace of any version, then two reports, one after another, and writes where these
@@ -30,32 +30,33 @@ pub fn run_diff_shown<T: Source, R: Source, W: Sink>(
     trace: &mut T,
     reader: &mut R,
     writer: &mut W,
+    terms: Terms,
 ) -> Result<(), RunFault>
     requires trace { T.failures trace.old < 2 ^ 64 - 1 }
     requires reader { R.failures reader.old < 2 ^ 64 - 1 }
     requires writer { W.failures writer.old < 2 ^ 64 - 1 }
 
     // The text is the one of the trace and the two reports that the readers' bytes are.
-    ensures alike { OnOk result (WritesShownDifferences true (T.left trace.old) (T.left trace.new)
+    ensures alike { OnOk result (WritesShownDifferences terms true (T.left trace.old) (T.left trace.new)
         (R.left reader.old) (R.left reader.new) (W.written writer.old) (W.written writer.new)) }
     ensures different { result ≡ Err RunFault.Different
-        → WritesShownDifferences false (T.left trace.old) (T.left trace.new)
+        → WritesShownDifferences terms false (T.left trace.old) (T.left trace.new)
         (R.left reader.old) (R.left reader.new) (W.written writer.old) (W.written writer.new) }
     ensures part { result ≡ Err RunFault.Write
-        → WritesShownDifferencesPart (T.left trace.old) (T.left trace.new)
+        → WritesShownDifferencesPart terms (T.left trace.old) (T.left trace.new)
         (R.left reader.old) (R.left reader.new) (W.written writer.old) (W.written writer.new) }
     ensures nothing { IfErr result (λ fault. fault ≢ RunFault.Write → fault ≢ RunFault.Different
         → Keeps (W.written writer.old) (W.written writer.new)) }
 
     ensures taken { TakesTrace (T.left trace.old) (T.left trace.new)
         × ConsumesUpTo most_taken (R.left reader.old) (R.left reader.new) }
-    ensures reading { IfErr result (TellsOfShown (T.left trace.old) (T.left trace.new)
+    ensures reading { IfErr result (TellsOfShown terms (T.left trace.old) (T.left trace.new)
         (R.left reader.old) (R.left reader.new)) }
     ensures write { W.failures writer.new ≡ W.failures writer.old + write_failures result }
 {
-    let comparison = shown_comparison(alloc, trace, reader)?;
+    let comparison = shown_comparison(alloc, trace, reader, terms)?;
     written(writer, comparison.text.as_slice())?;
-    if comparison.alike {
+    if comparison.passes {
         Ok(())
     } else {
         Err(RunFault::Different)
@@ -68,21 +69,22 @@ fn shown_comparison<T: Source, R: Source>(
     alloc: Global,
     trace: &mut T,
     reader: &mut R,
+    terms: Terms,
 ) -> Result<Comparison, RunFault>
     requires trace { T.failures trace.old < 2 ^ 64 - 1 }
     requires reader { R.failures reader.old < 2 ^ 64 - 1 }
-    ensures ok { IfOk result (ComparesShown (T.left trace.old) (T.left trace.new)
+    ensures ok { IfOk result (ComparesShown terms (T.left trace.old) (T.left trace.new)
         (R.left reader.old) (R.left reader.new)) }
     ensures taken { TakesTrace (T.left trace.old) (T.left trace.new)
         × ConsumesUpTo most_taken (R.left reader.old) (R.left reader.new) }
-    ensures err { IfErr result (TellsOfShown (T.left trace.old) (T.left trace.new)
+    ensures err { IfErr result (TellsOfShown terms (T.left trace.old) (T.left trace.new)
         (R.left reader.old) (R.left reader.new)) }
     ensures write { write_failures result ≡ 0 }
     ensures neither { IfErr result
         (λ fault. (fault ≢ RunFault.Write) × (fault ≢ RunFault.Different)) }
 {
     let trace = taken_any(alloc, trace)?;
-    let comparison = taken_comparison(alloc, reader, Form::Text)?;
+    let comparison = taken_comparison(alloc, reader, Form::Text, terms)?;
     comparison_shown(alloc, &trace, comparison)
 }
 
@@ -104,13 +106,13 @@ fn comparison_shown(
 ) -> Result<Comparison, RunFault>
     ensures text { IfOk result
         (λ shown. shown.text.items ≡ with_entries trace.now comparison.text.items) }
-    ensures alike { IfOk result (λ shown. shown.alike ≡ comparison.alike) }
+    ensures alike { IfOk result (λ shown. shown.passes ≡ comparison.passes) }
     ensures err { IfErr result (λ fault. fault ≡ RunFault.Reports ReportsFault.Memory) }
 {
     match with_entries(alloc, trace, comparison.text.as_slice()) {
         Ok(text) => Ok(Comparison {
             text,
-            alike: comparison.alike,
+            passes: comparison.passes,
         }),
         Err(AllocError) => Err(RunFault::Reports(ReportsFault::Memory)),
     }
@@ -127,6 +129,7 @@ pub fn run_diff_of_two_shown<T: Source, R: Source, S: Source, W: Sink>(
     first: &mut R,
     second: &mut S,
     writer: &mut W,
+    terms: Terms,
 ) -> Result<(), RunFault>
     requires trace { T.failures trace.old < 2 ^ 64 - 1 }
     requires first { R.failures first.old < 2 ^ 64 - 1 }
@@ -134,13 +137,13 @@ pub fn run_diff_of_two_shown<T: Source, R: Source, S: Source, W: Sink>(
     requires writer { W.failures writer.old < 2 ^ 64 - 1 }
 
     // The text is the one of the trace and the two reports that the readers' bytes are.
-    ensures alike { OnOk result (WritesShownDifferencesOfTwo true
+    ensures alike { OnOk result (WritesShownDifferencesOfTwo terms true
         (T.left trace.old) (T.left trace.new) (R.left first.old) (R.left first.new)
         (S.left second.old) (S.left second.new) (W.written writer.old) (W.written writer.new)) }
-    ensures different { result ≡ Err RunFault.Different → WritesShownDifferencesOfTwo false
+    ensures different { result ≡ Err RunFault.Different → WritesShownDifferencesOfTwo terms false
         (T.left trace.old) (T.left trace.new) (R.left first.old) (R.left first.new)
         (S.left second.old) (S.left second.new) (W.written writer.old) (W.written writer.new) }
-    ensures part { result ≡ Err RunFault.Write → WritesShownPartOfTwo
+    ensures part { result ≡ Err RunFault.Write → WritesShownPartOfTwo terms
         (T.left trace.old) (T.left trace.new) (R.left first.old) (R.left first.new)
         (S.left second.old) (S.left second.new) (W.written writer.old) (W.written writer.new) }
     ensures nothing { IfErr result (λ fault. fault ≢ RunFault.Write → fault ≢ RunFault.Different
@@ -149,13 +152,13 @@ pub fn run_diff_of_two_shown<T: Source, R: Source, S: Source, W: Sink>(
     ensures taken { TakesTrace (T.left trace.old) (T.left trace.new)
         × (ConsumesUpTo most_taken (R.left first.old) (R.left first.new)
         × ConsumesUpTo most_taken (S.left second.old) (S.left second.new)) }
-    ensures reading { IfErr result (TellsOfShownTwo (T.left trace.old) (T.left trace.new)
+    ensures reading { IfErr result (TellsOfShownTwo terms (T.left trace.old) (T.left trace.new)
         (R.left first.old) (R.left first.new) (S.left second.old) (S.left second.new)) }
     ensures write { W.failures writer.new ≡ W.failures writer.old + write_failures result }
 {
-    let comparison = shown_comparison_of_two(alloc, trace, first, second)?;
+    let comparison = shown_comparison_of_two(alloc, trace, first, second, terms)?;
     written(writer, comparison.text.as_slice())?;
-    if comparison.alike {
+    if comparison.passes {
         Ok(())
     } else {
         Err(RunFault::Different)
@@ -168,22 +171,23 @@ fn shown_comparison_of_two<T: Source, R: Source, S: Source>(
     trace: &mut T,
     first: &mut R,
     second: &mut S,
+    terms: Terms,
 ) -> Result<Comparison, RunFault>
     requires trace { T.failures trace.old < 2 ^ 64 - 1 }
     requires first { R.failures first.old < 2 ^ 64 - 1 }
     requires second { S.failures second.old < 2 ^ 64 - 1 }
-    ensures ok { IfOk result (ComparesShownTwo (T.left trace.old) (T.left trace.new)
+    ensures ok { IfOk result (ComparesShownTwo terms (T.left trace.old) (T.left trace.new)
         (R.left first.old) (R.left first.new) (S.left second.old) (S.left second.new)) }
     ensures taken { TakesTrace (T.left trace.old) (T.left trace.new)
         × (ConsumesUpTo most_taken (R.left first.old) (R.left first.new)
         × ConsumesUpTo most_taken (S.left second.old) (S.left second.new)) }
-    ensures err { IfErr result (TellsOfShownTwo (T.left trace.old) (T.left trace.new)
+    ensures err { IfErr result (TellsOfShownTwo terms (T.left trace.old) (T.left trace.new)
         (R.left first.old) (R.left first.new) (S.left second.old) (S.left second.new)) }
     ensures write { write_failures result ≡ 0 }
     ensures neither { IfErr result
         (λ fault. (fault ≢ RunFault.Write) × (fault ≢ RunFault.Different)) }
 {
     let trace = taken_any(alloc, trace)?;
-    let comparison = comparison_of_two(alloc, first, second)?;
+    let comparison = comparison_of_two(alloc, first, second, terms)?;
     comparison_shown(alloc, &trace, comparison)
 }

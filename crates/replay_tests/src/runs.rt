@@ -8,7 +8,7 @@ use replay_program::{
     run_diff, run_diff_beside, run_diff_shown, run_make, told,
 };
 use replay_report::{Shown, SumsShown};
-use report_diff::{Flaw, Refusal, Side};
+use report_diff::{Flaw, Refusal, Side, Terms};
 use std::process::Abort;
 use std::sync::Wait;
 use std::test::Fail;
@@ -28,6 +28,12 @@ const WITH_SUMS: Shown = Shown {
 const WITH_ALL: Shown = Shown {
     sums: SumsShown::All,
     names: true,
+};
+
+/// A comparison of two whole reports that fails by what differs alone.
+const PLAIN_TERMS: Terms = Terms {
+    strict: false,
+    truncated: false,
 };
 
 const SERIAL: Options = Options {
@@ -98,13 +104,13 @@ fn reads_names_of_files(rt: HostRuntime) {
         trace: Some("b"),
         output: Some("c"),
     };
-    assert_eq!(rt; request.task, Task::Diff);
+    assert_eq!(rt; request.task, Task::Diff(PLAIN_TERMS));
     assert_eq!(rt; request.files, files);
 }
 
 #[test]
 fn reads_words(rt: HostRuntime) {
-    let cases: [(&[&str], Task); 13] = [
+    let cases: [(&[&str], Task); 14] = [
         (["serial"].as_slice(), Task::Replay(SERIAL)),
         (["serial", "--sums"].as_slice(), Task::Replay(SUMS)),
         (["run"].as_slice(), Task::Replay(run_with(4, 64, PLAIN))),
@@ -135,7 +141,14 @@ fn reads_words(rt: HostRuntime) {
             Task::Replay(depends_with(true)),
         ),
         (["check"].as_slice(), Task::Replay(CHECK)),
-        (["diff"].as_slice(), Task::Diff),
+        (["diff"].as_slice(), Task::Diff(PLAIN_TERMS)),
+        (
+            ["diff", "--truncated", "--strict"].as_slice(),
+            Task::Diff(Terms {
+                strict: true,
+                truncated: true,
+            }),
+        ),
     ];
     for (words, wanted) in cases {
         let request = read_words(rt.alloc(), words).expect(&rt, "a task");
@@ -281,17 +294,17 @@ fn tells_a_difference(rt: HostRuntime) {
 #[test]
 fn compares_two_reports(rt: HostRuntime) {
     let alloc = rt.alloc();
-    let counts = "tree 0 equal, 0 different, 0 outside\n\
-        slots 0 equal, 0 different, 0 outside\n\
-        buffers 0 equal, 0 different, 0 outside\n";
+    let counts = "tree 0 equal, 0 different, 0 unchecked, 0 given\n\
+        slots 0 equal, 0 different, 0 unchecked, 0 given\n\
+        buffers 0 equal, 0 different, 0 unchecked, 0 given\n";
     let reports =
         "uring-report 1\n0 user=7 res=4 posted\nend\nuring-report 1\n0 user=7 res=5 posted op=1\nend\n";
     let mut reader = FromStd::new(reports.as_bytes());
     let mut writer = FromStd::new(Vec::new(alloc));
-    let done = run_diff(alloc, &mut reader, &mut writer, Form::Text);
+    let done = run_diff(alloc, &mut reader, &mut writer, Form::Text, PLAIN_TERMS);
     assert_eq!(rt; done, Err(RunFault::Different));
     let text = format!(in alloc;
-        "- 0 user=7 res=4 posted\n+ 0 user=7 res=5 posted op=1\nentries 0 equal, 1 different, 0 outside\n{counts}"
+        "- 0 user=7 res=4 posted\n+ 0 user=7 res=5 posted op=1\nentries 0 equal, 1 different, 0 unchecked, 0 given\n{counts}"
     ).expect(&rt, "memory");
     assert_eq!(rt; writer.stream.as_slice(), text.as_bytes());
 }
@@ -303,15 +316,15 @@ fn tells_a_comparison_as_json(rt: HostRuntime) {
         "uring-report 1\n0 user=7 res=4 posted\nend\nuring-report 1\n0 user=7 res=-5 silent x=\"\nend\n";
     let mut reader = FromStd::new(reports.as_bytes());
     let mut writer = FromStd::new(Vec::new(alloc));
-    let done = run_diff(alloc, &mut reader, &mut writer, Form::Json);
+    let done = run_diff(alloc, &mut reader, &mut writer, Form::Json, PLAIN_TERMS);
     assert_eq!(rt; done, Err(RunFault::Different));
     let text =
         "{\"sign\":\"-\",\"kind\":\"entry\",\"place\":0,\"user\":\"7\",\"res\":4,\"posted\":true}\n\
         {\"sign\":\"+\",\"kind\":\"entry\",\"place\":0,\"user\":\"7\",\"res\":-5,\"posted\":false,\"x\":\"\\\"\"}\n\
-        {\"kind\":\"entries\",\"equal\":0,\"different\":1,\"outside\":0}\n\
-        {\"kind\":\"tree\",\"equal\":0,\"different\":0,\"outside\":0}\n\
-        {\"kind\":\"slots\",\"equal\":0,\"different\":0,\"outside\":0}\n\
-        {\"kind\":\"buffers\",\"equal\":0,\"different\":0,\"outside\":0}\n";
+        {\"kind\":\"entries\",\"equal\":0,\"different\":1,\"unchecked\":0,\"given\":0}\n\
+        {\"kind\":\"tree\",\"equal\":0,\"different\":0,\"unchecked\":0,\"given\":0}\n\
+        {\"kind\":\"slots\",\"equal\":0,\"different\":0,\"unchecked\":0,\"given\":0}\n\
+        {\"kind\":\"buffers\",\"equal\":0,\"different\":0,\"unchecked\":0,\"given\":0}\n";
     assert_eq!(rt; writer.stream.as_slice(), text.as_bytes());
 }
 
@@ -321,14 +334,21 @@ fn compares_the_reports_of_two_readers(rt: HostRuntime) {
     let mut first = FromStd::new("uring-report 1\n0 user=7 res=4 posted\nend\n".as_bytes());
     let mut second = FromStd::new("uring-report 1\n0 user=7 res=4 silent\nend\n".as_bytes());
     let mut writer = FromStd::new(Vec::new(alloc));
-    let done = run_diff_beside(alloc, &mut first, &mut second, &mut writer, Form::Text);
+    let done = run_diff_beside(
+        alloc,
+        &mut first,
+        &mut second,
+        &mut writer,
+        Form::Text,
+        PLAIN_TERMS,
+    );
     assert_eq!(rt; done, Err(RunFault::Different));
     let text = "- 0 user=7 res=4 posted\n\
         + 0 user=7 res=4 silent\n\
-        entries 0 equal, 1 different, 0 outside\n\
-        tree 0 equal, 0 different, 0 outside\n\
-        slots 0 equal, 0 different, 0 outside\n\
-        buffers 0 equal, 0 different, 0 outside\n";
+        entries 0 equal, 1 different, 0 unchecked, 0 given\n\
+        tree 0 equal, 0 different, 0 unchecked, 0 given\n\
+        slots 0 equal, 0 different, 0 unchecked, 0 given\n\
+        buffers 0 equal, 0 different, 0 unchecked, 0 given\n";
     assert_eq!(rt; writer.stream.as_slice(), text.as_bytes());
 }
 
@@ -341,17 +361,17 @@ fn shows_the_entry_of_a_line_that_differs(rt: HostRuntime) {
         "uring-report 1\n0 user=7 res=4\nend\nuring-report 1\n0 user=7 res=5\n1 user=8 res=0\nend\n";
     let mut reader = FromStd::new(reports.as_bytes());
     let mut writer = FromStd::new(Vec::new(alloc));
-    let done = run_diff_shown(alloc, &mut trace, &mut reader, &mut writer);
+    let done = run_diff_shown(alloc, &mut trace, &mut reader, &mut writer, PLAIN_TERMS);
     assert_eq!(rt; done, Err(RunFault::Different));
     let text = "- 0 user=7 res=4\n\
         \x20 READ FIXED_FILE off=2 len=4 user_data=7\n\
         + 0 user=7 res=5\n\
         \x20 READ FIXED_FILE off=2 len=4 user_data=7\n\
         + 1 user=8 res=0\n\
-        entries 0 equal, 2 different, 0 outside\n\
-        tree 0 equal, 0 different, 0 outside\n\
-        slots 0 equal, 0 different, 0 outside\n\
-        buffers 0 equal, 0 different, 0 outside\n";
+        entries 0 equal, 2 different, 0 unchecked, 0 given\n\
+        tree 0 equal, 0 different, 0 unchecked, 0 given\n\
+        slots 0 equal, 0 different, 0 unchecked, 0 given\n\
+        buffers 0 equal, 0 different, 0 unchecked, 0 given\n";
     assert_eq!(rt; writer.stream.as_slice(), text.as_bytes());
 }
 
@@ -366,17 +386,17 @@ fn makes_a_trace_of_version_3_and_shows_its_entry(rt: HostRuntime) {
         "uring-report 2\n1 user=7 res=0\nend\nuring-report 2\n0 user=8 res=0\n1 user=7 res=4\nend\n";
     let mut reader = FromStd::new(reports.as_bytes());
     let mut writer = FromStd::new(Vec::new(alloc));
-    let done = run_diff_shown(alloc, &mut trace, &mut reader, &mut writer);
+    let done = run_diff_shown(alloc, &mut trace, &mut reader, &mut writer, PLAIN_TERMS);
     assert_eq!(rt; done, Err(RunFault::Different));
     let shown = "- 1 user=7 res=0\n\
         \x20 NOP user_data=7\n\
         + 1 user=7 res=4\n\
         \x20 NOP user_data=7\n\
         + 0 user=8 res=0\n\
-        entries 0 equal, 2 different, 0 outside\n\
-        tree 0 equal, 0 different, 0 outside\n\
-        slots 0 equal, 0 different, 0 outside\n\
-        buffers 0 equal, 0 different, 0 outside\n";
+        entries 0 equal, 2 different, 0 unchecked, 0 given\n\
+        tree 0 equal, 0 different, 0 unchecked, 0 given\n\
+        slots 0 equal, 0 different, 0 unchecked, 0 given\n\
+        buffers 0 equal, 0 different, 0 unchecked, 0 given\n";
     assert_eq!(rt; writer.stream.as_slice(), shown.as_bytes());
 }
 
@@ -386,7 +406,7 @@ fn writes_nothing_for_one_report(rt: HostRuntime) {
     let report = "uring-report 1\nring 0\nend\n";
     let mut reader = FromStd::new(report.as_bytes());
     let mut writer = FromStd::new(Vec::new(alloc));
-    let done = run_diff(alloc, &mut reader, &mut writer, Form::Text);
+    let done = run_diff(alloc, &mut reader, &mut writer, Form::Text, PLAIN_TERMS);
     let heading = Refusal {
         side: Side::Second,
         flaw: Flaw::Heading,

@@ -17,6 +17,7 @@ use replay_program::{
     read_words, run, run_check, run_diff, run_diff_beside, run_diff_of_two_shown, run_diff_shown,
     run_make, run_report, run_show,
 };
+use report_diff::Terms;
 use std::alloc::AllocError;
 use std::env;
 use std::env::FillError;
@@ -77,7 +78,7 @@ fn served<'a, T: Threads + Wait + Sync>(
         Task::Replay(options) => replayed(rt, threads, input, request, &options),
         Task::Show(look) => displayed(rt, input, files.output, look),
         Task::Make => made(rt, input, files.output),
-        Task::Diff => compared(rt, input, files, form),
+        Task::Diff(terms) => compared(rt, input, files, form, terms),
     }
 }
 
@@ -104,7 +105,7 @@ fn misuse(request: &Request<'_>) -> Option<&'static str> {
 fn is_eager(task: Task) -> bool {
     match task {
         Task::Replay(options) => matches!(options.mode, Mode::Run { eager: true, .. }),
-        Task::Diff | Task::Show(_) | Task::Make => false,
+        Task::Diff(_) | Task::Show(_) | Task::Make => false,
     }
 }
 
@@ -115,7 +116,7 @@ fn is_graph(task: Task) -> bool {
             options.mode,
             Mode::Rounds { dot: true, .. } | Mode::Depends { dot: true }
         ),
-        Task::Diff | Task::Show(_) | Task::Make => false,
+        Task::Diff(_) | Task::Show(_) | Task::Make => false,
     }
 }
 
@@ -195,6 +196,7 @@ fn compared<'a>(
     input: Input,
     files: Files<'a>,
     form: Form,
+    terms: Terms,
 ) -> Result<(), Trouble<'a>> {
     let second = match files.second {
         Some(name) => Some(second_input(rt, files.input, name)?),
@@ -205,10 +207,10 @@ fn compared<'a>(
         None => None,
     };
     match (trace, second) {
-        (None, None) => compared_together(rt, input, files.output, form),
-        (None, Some(second)) => compared_apart(rt, input, second, files.output, form),
-        (Some(trace), None) => shown_together(rt, trace, input, files.output),
-        (Some(trace), Some(second)) => shown_apart(rt, trace, input, second, files.output),
+        (None, None) => compared_together(rt, input, files.output, form, terms),
+        (None, Some(second)) => compared_apart(rt, input, second, files.output, form, terms),
+        (Some(trace), None) => shown_together(rt, trace, input, files.output, terms),
+        (Some(trace), Some(second)) => shown_apart(rt, trace, input, second, files.output, terms),
     }
 }
 
@@ -218,10 +220,11 @@ fn compared_together<'a>(
     input: Input,
     output: Option<&'a str>,
     form: Form,
+    terms: Terms,
 ) -> Result<(), Trouble<'a>> {
     let mut writer = FromStd::new(output_of(rt, output, &[&input])?);
     let mut reader = FromStd::new(input);
-    let done = run_diff(rt.alloc(), &mut reader, &mut writer, form);
+    let done = run_diff(rt.alloc(), &mut reader, &mut writer, form, terms);
     ended(writer.stream, done)
 }
 
@@ -232,11 +235,19 @@ fn compared_apart<'a>(
     second: Input,
     output: Option<&'a str>,
     form: Form,
+    terms: Terms,
 ) -> Result<(), Trouble<'a>> {
     let mut writer = FromStd::new(output_of(rt, output, &[&first, &second])?);
     let mut first = FromStd::new(first);
     let mut second = FromStd::new(second);
-    let done = run_diff_beside(rt.alloc(), &mut first, &mut second, &mut writer, form);
+    let done = run_diff_beside(
+        rt.alloc(),
+        &mut first,
+        &mut second,
+        &mut writer,
+        form,
+        terms,
+    );
     ended(writer.stream, done)
 }
 
@@ -246,11 +257,12 @@ fn shown_together<'a>(
     trace: Input,
     input: Input,
     output: Option<&'a str>,
+    terms: Terms,
 ) -> Result<(), Trouble<'a>> {
     let mut writer = FromStd::new(output_of(rt, output, &[&trace, &input])?);
     let mut trace = FromStd::new(trace);
     let mut reader = FromStd::new(input);
-    let done = run_diff_shown(rt.alloc(), &mut trace, &mut reader, &mut writer);
+    let done = run_diff_shown(rt.alloc(), &mut trace, &mut reader, &mut writer, terms);
     ended(writer.stream, done)
 }
 
@@ -261,12 +273,20 @@ fn shown_apart<'a>(
     first: Input,
     second: Input,
     output: Option<&'a str>,
+    terms: Terms,
 ) -> Result<(), Trouble<'a>> {
     let mut writer = FromStd::new(output_of(rt, output, &[&trace, &first, &second])?);
     let mut trace = FromStd::new(trace);
     let mut first = FromStd::new(first);
     let mut second = FromStd::new(second);
-    let done = run_diff_of_two_shown(rt.alloc(), &mut trace, &mut first, &mut second, &mut writer);
+    let done = run_diff_of_two_shown(
+        rt.alloc(),
+        &mut trace,
+        &mut first,
+        &mut second,
+        &mut writer,
+        terms,
+    );
     ended(writer.stream, done)
 }
 

@@ -28,7 +28,7 @@ returns-in_err-written g c =
     record {
       alike = gives_nothing _ _ _ ended;
       different = not_by _ _ _ ended write_is_not_different;
-      part = λ failed. part c.args.form _ _ _ _ c.in_ok-comparison.comparison _ found.ok c.as_slice.ensures.value c.in_err-written.ensures.part;
+      part = λ failed. part c.args.form c.args.terms _ _ _ _ c.in_ok-comparison.comparison _ found.ok c.as_slice.ensures.value c.in_err-written.ensures.part;
       nothing = by _ _ _ ended (λ no_write same. absurd (no_write refl));
       taken = found.taken;
       reading = by _ _ _ ended (found.ok.input, found.ok.read);

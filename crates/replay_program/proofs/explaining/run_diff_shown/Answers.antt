@@ -27,7 +27,7 @@ returns-in_err-written g c =
     record {
       alike = gives_nothing _ _ _ ended;
       different = not_by _ _ _ ended write_is_not_different;
-      part = λ failed. part_shown _ _ _ _ _ _ c.in_ok-comparison.comparison _ found.ok c.as_slice.ensures.value c.in_err-written.ensures.part;
+      part = λ failed. part_shown c.args.terms _ _ _ _ _ _ c.in_ok-comparison.comparison _ found.ok c.as_slice.ensures.value c.in_err-written.ensures.part;
       nothing = by _ _ _ ended (λ no_write same. absurd (no_write refl));
       taken = found.taken;
       reading = by _ _ _ ended ((found.ok.t, found.ok.spelled), (found.ok.input, found.ok.read));
