@@ -304,7 +304,7 @@ def wrong_counts(page: Page, told_: Sequence[Dict]) -> Optional[str]:
             if not counts:
                 return "{} on {}: {!r}".format(opcode, system, text)
             left = sum(int(it.split()[1]) for it in (counts[3] or "").split(", ") if it)
-            wanted = (sum(it["equal"] for it in found), sum(it["different"] for it in found), sum(count for it in found for count in it["outside"].values()))
+            wanted = (sum(it["equal"] for it in found), sum(it["different"] for it in found), sum(count for it in found for count in it["unchecked"].values()))
             if (int(counts[1]), int(counts[2] or 0), left) != wanted:
                 return "{} on {}: {!r}, wanted {}".format(opcode, system, text, wanted)
         if (system == "wrong") != any(it["entries"].get("WRITE", {}).get("different") for it in each):

@@ -24,7 +24,7 @@ PASSES, FAILS, REFUSED = "passes", "fails", "refused"
 
 
 class Mode(NamedTuple):
-    """What the trace of a mode of given.c gives, and how many entries and names of the tree are equal and outside."""
+    """What the trace of a mode of given.c gives, and how many entries and names of the tree are equal or given, and how many are unchecked."""
 
     name: str
     given: Sequence[Told]
@@ -91,9 +91,9 @@ def of_mode(program: Program, mode: Mode, words: Sequence[str]) -> List[Outcome]
     faults = by_model.differing + lines_of(kernel)
     if given_in(trace) != list(mode.given):
         faults.append("it gives {}, wanted {}".format(given_in(trace), list(mode.given)))
-    counts: Dict[str, Tuple[int, int]] = {part: (by_model.counts[part][0], by_model.counts[part][2]) for part in ("entries", "tree")}
+    counts: Dict[str, Tuple[int, int]] = {part: (by_model.counts[part][0] + by_model.counts[part][3], by_model.counts[part][2]) for part in ("entries", "tree")}
     if not words and counts != {"entries": mode.entries, "tree": mode.tree}:
-        faults.append("equal and outside are {}".format(counts))
+        faults.append("equal or given, and unchecked are {}".format(counts))
     return [Outcome(label, first(faults))]
 
 
@@ -115,7 +115,7 @@ def given_up(program: Program) -> List[Outcome]:
     kernel = "" if made.fault else read_file(made.path + ".kernel").decode()
     told = re.findall(r"^1 ring=0 user=1 completion=unseen given=1 op=22 submitted=\d+$", kernel, re.M)
     given = [] if made.fault else given_in(read_file(made.path + ".trace"))
-    is_well = len(told) == 1 and given == [(READ, -125, FAILS)] and made.compared and made.compared.counts["entries"][1:] == [0, 0]
+    is_well = len(told) == 1 and given == [(READ, -125, FAILS)] and made.compared and made.compared.counts["entries"][1:3] == [0, 1]
     return [Outcome("given results: an entry in flight while much is written", made.fault or (None if is_well else "{}: {}".format(given, told)))]
 
 

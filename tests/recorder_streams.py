@@ -93,7 +93,7 @@ def told(program: Program) -> List[Outcome]:
 
 
 def sixteen(program: Program) -> List[Outcome]:
-    """The sixteen calls have the counts that they have in version 2, but for entries that are outside there: a timeout is given, and so is an OPENAT that met a
+    """The sixteen calls have the counts that they have in version 2, but for entries that are unchecked there: a timeout is given, and so is an OPENAT that met a
     MKDIRAT of its name, since the replay may give it no number. The recorder makes fewer entries."""
     built, outcomes = streams(), []
     for words in ([], ["--drain"], ["--wait"]):
@@ -104,12 +104,12 @@ def sixteen(program: Program) -> List[Outcome]:
         fault = made.fault or (fault_of(ran) if ran.status else None)
         if not fault and made.compared:
             wanted = compared(model_records.report(read_file(second + ".trace")).decode(), read_file(second + ".kernel").decode())
-            equal, different, outside = wanted.counts["entries"]
+            equal, different, unchecked, given_there = wanted.counts["entries"]
             fewer = read_file(second + ".kernel").count(b" by=recorder") - read_file(made.path + ".kernel").count(b" by=recorder")
             given = re.findall(r" res=(\S+) posted given=1 op=(\d+) ", read_file(made.path + ".kernel").decode())
-            wanted.counts["entries"] = [equal + len(given) - fewer, different, outside - len(given)]
+            wanted.counts["entries"] = [equal - fewer, different, unchecked - len(given), given_there + len(given)]
             fault = None if fewer > 0 else "the recorder makes as many entries as in version 2"
-            fault = fault or (None if made.compared.lines() == wanted.lines() else "it has {!r}, wanted {!r}".format(made.compared.lines(), wanted.lines()))
+            fault = fault or (None if made.compared.counts == wanted.counts else "it has {!r}, wanted {!r}".format(made.compared.lines(), wanted.lines()))
             opens = [] if "--drain" in words else ["18"]
             fault = fault or (None if [it[1] for it in given] == [*opens, "11"] else "it gives {}".format(given))
         outcomes.append(Outcome("version 3: the sixteen calls, {}".format(spoken(words)), fault))
@@ -124,12 +124,12 @@ def rings(program: Program) -> List[Outcome]:
         made = record(program, "rings-" + "-".join(mode), [], [harm, "rings", *mode])
         got = program.run(["check"], made.path + ".trace").output.decode()
         fault = made.fault or (None if got == wanted else repr(got))
-        if not fault and made.compared and (made.compared.counts["entries"], made.compared.counts["tree"]) != ([entries, 0, 0], [1, 0, 0]):
+        if not fault and made.compared and (made.compared.counts["entries"], made.compared.counts["tree"]) != ([entries, 0, 0, 0], [1, 0, 0, 0]):
             fault = made.compared.lines()
         outcomes.append(Outcome("version 3: rings {}".format(" ".join(mode)), fault))
     made = record(program, "anew", [], [streams().file("streams"), "anew", "30"])
     # (30 rings, and of each a fill before either of its writes, and three entries)
-    fault = made.fault or (None if made.compared and made.compared.counts["entries"] == [90, 0, 0] else "not all entries are equal")
+    fault = made.fault or (None if made.compared and made.compared.counts["entries"] == [90, 0, 0, 0] else "not all entries are equal")
     got = program.run(["check"], made.path + ".trace").output
     return [*outcomes, Outcome("version 3: files and buffers registered anew", fault or (None if got == b"ok 180 places 30 rings\n" else repr(got)))]
 
@@ -318,7 +318,7 @@ def secret(program: Program, words: Sequence[str], with_data: bool) -> Tuple[Opt
     found = compared(program.run(["serial", "--sums"], trace).output.decode(), kernel.decode())
     # (nine entries and a call, for which version 1 has two; three files that are read or written, and one that is left)
     equal = found.counts["entries"][0]
-    if equal < 10 or found.counts != {**found.counts, "entries": [equal, 0, 0], "tree": [4, 0, 0]}:
+    if equal < 10 or found.counts != {**found.counts, "entries": [equal, 0, 0, 0], "tree": [4, 0, 0, 0]}:
         fault = found.lines()
     elif len(re.findall(rb" res=\d+ .*op=", kernel)) != equal or b"file /known size=34" not in kernel:
         fault = "results or sizes are not told"

@@ -108,7 +108,7 @@ def comparisons() -> List[Tuple[str, bytes, Answer]]:
           for one, other in (MORE, MORE[::-1])),
         ("descriptors and buffers by their numbers", report(*HELD, b"buffer 0 0 len=16\n", b"buffer 0 1 len=8\n") + report(HELD[0], HELD[1], b"descriptor 4 desc=2\n", *HELD[3:], b"buffer 0 0 len=16\n", b"buffer 0 1 len=9\n"),
          Answer(4, b"- descriptor 4 desc=1\n+ descriptor 4 desc=2\n- buffer 0 1 len=8\n+ buffer 0 1 len=9\n"
-                + b"".join(b"%s 0 equal, 0 different, 0 outside\n" % it for it in (b"entries", b"tree")) + b"slots 1 equal, 1 different, 0 outside\nbuffers 1 equal, 1 different, 0 outside\n", b"")),
+                + b"".join(b"%s 0 equal, 0 different, 0 unchecked, 0 given\n" % it for it in (b"entries", b"tree")) + b"slots 1 equal, 1 different, 0 unchecked, 0 given\nbuffers 1 equal, 1 different, 0 unchecked, 0 given\n", b"")),
         ("names on one side", report(b"0 user=7 res=-2 posted name=OPENAT errno=ENOENT\n") + report(b"0 user=7 res=-2 posted op=18\n"),
          Answer(0, counted(entries=1), b"")),
     ]
