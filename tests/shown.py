@@ -111,8 +111,8 @@ def of_names(program: Program, label: str, trace: bytes) -> List[Outcome]:
             outcomes.append(Outcome("names of {}: {} by {}".format(label, spoken([*mode, *words]), program.compiler), difference(got, wanted)))
         if plain.status == 0:
             told = program.run(["diff"], program.run([*mode, "--names"], trace).output + plain.output)
-            count = len(re.findall(rb"^\d+ (?:ring=\d+ )?user=", plain.output, re.M))
-            is_alike = told.status == 0 and told.output.startswith(b"entries %d equal, 0 different, 0 outside\n" % count)
+            count, given = (len(re.findall(it, plain.output, re.M)) for it in (rb"^\d+ (?:ring=\d+ )?user=", rb"^\d+ .* given=1( |$)"))
+            is_alike = told.status == 0 and told.output.startswith(b"entries %d equal, 0 different, 0 unchecked, %d given\n" % (count - given, given))
             outcomes.append(Outcome("diff of names and none: {} by {}".format(label, program.compiler), None if is_alike else shown(told)))
     return outcomes
 
