@@ -300,7 +300,7 @@ def wrong_counts(page: Page, told_: Sequence[Dict]) -> Optional[str]:
         for opcode in {name for it in each for name in it["entries"]}:
             found = [it["entries"][opcode] for it in each if opcode in it["entries"]]
             text = (rows.get(opcode) or ["", ""])[column]
-            counts = re.match(r"(\d+) equal(?:, (\d+) different(?: \([\d ]+\))?)?(?:left out: (.*))?$", text)
+            counts = re.match(r"(\d+) equal(?:, (\d+) different(?: \([\d ]+\))?)?(?:unchecked: (.*))?$", text)
             if not counts:
                 return "{} on {}: {!r}".format(opcode, system, text)
             left = sum(int(it.split()[1]) for it in (counts[3] or "").split(", ") if it)

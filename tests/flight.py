@@ -69,15 +69,15 @@ def passed_through(player: Player, program: Program, words: Sequence[str]) -> Li
 
 def much(player: Player, program: Program, kind: Type[Wide], seeds: range) -> List[Outcome]:
     """Drawn traces of many steps that mostly use different things: nothing differs, and most is compared."""
-    faults, entries, outside = [], 0, 0
+    faults, entries, unchecked = [], 0, 0
     for seed in seeds:
         trace = kind(seed).trace()
         report, place = program.run(["serial", sums_option(trace)], trace).output, player.directories()[seed % len(player.directories())]
         found = player.compared(program, trace, report, "flight", place)
         faults += ["wide {} in {}: {}".format(seed, place, found.fault)] if found.fault else []
-        entries, outside = entries + sum(found.counts["entries"]), outside + found.counts["entries"][2]
+        entries, unchecked = entries + sum(found.counts["entries"]), unchecked + found.counts["entries"][2]
     name = "flight: {} {} to {}".format(kind.__name__, seeds.start, seeds.stop - 1)
-    return [Outcome(name, first(faults) or (None if 100 * outside < (100 - play.COMPARED) * entries else "of {} entries {} are outside".format(entries, outside)))]
+    return [Outcome(name, first(faults) or (None if 100 * unchecked < (100 - play.COMPARED) * entries else "of {} entries {} are unchecked".format(entries, unchecked)))]
 
 
 # --- Queues that are full ---------------------------------------------------------------------------------------------
@@ -332,12 +332,12 @@ def summed_up(player: Player, program: Program) -> List[Outcome]:
     got = loud.steered(trace, report, ["--json", "--pace", path], b"", "", depends)
     told, sizes = json.loads(got.errors), [end - start for start, end in times(got.output)]
     wanted = {str(name): share_of(sizes, share) for name, share in ((50, 500), (99, 990), (99.9, 999), (100, 1_000))}
-    is_well = told["entries"] == SPACED and told["bytes"] == 4 * SPACED and told["not_played"] == 0 and list(told["opcodes"]) == ["READ"]
+    is_well = told["entries"] == SPACED and told["bytes"] == 4 * SPACED and told["skipped"] == 0 and list(told["opcodes"]) == ["READ"]
     is_well = is_well and told["opcodes"]["READ"] == {"entries": SPACED, "bytes": 4 * SPACED, "latency_ns": wanted} and sorted(told["delay_ns"]) == ["100", "50", "99", "99.9"]
     is_well = is_well and abs(told["entries"] / told["seconds"] - told["entries_per_second"]) < 1
     outcomes.append(Outcome("flight: the summary as JSON", None if is_well else "{} {}".format(told, wanted)))
     lines = loud.steered(trace, report, ["--pace", path], b"", "", depends).errors.decode().splitlines()
-    starts = ("{} entries in ".format(SPACED), "{} bytes moved (".format(4 * SPACED), " ", "READ   ", "submitted behind their times: 50% ")
+    starts = ("{} entries in ".format(SPACED), "{} bytes moved (".format(4 * SPACED), " ", "READ   ", "submitted late by: 50% ")
     is_well = len(lines) == len(starts) and all(it.startswith("uring_play: " + start) for it, start in zip(lines, starts))
     return [*outcomes, Outcome("flight: the summary", None if is_well else repr(lines))]
 
@@ -368,7 +368,7 @@ def on_less(player: Player, program: Program) -> List[Outcome]:
     outcomes.append(Outcome("flight: a kernel without threads", None if is_well else shown(refused)))
     got = player.with_less(stuck_at=2).steered(trace, report, ["--patience", "1", "--in-flight", "1"], b"", "", depends)
     lines = got.output.split(b"\n")
-    told = [sum(b" res=64 posted" in it for it in lines) == 1, sum(b" silent " in it for it in lines) == 1, got.output.count(b"outside=stuck") == 14]
+    told = [sum(b" res=64 posted" in it for it in lines) == 1, sum(b" silent " in it for it in lines) == 1, got.output.count(b"unchecked=stuck") == 14]
     is_well = got.status == 3 and all(told) and b" not ended in 1 second" in got.errors and got.output.endswith(b"\nend\n")
     outcomes.append(Outcome("flight: entries that never end", None if is_well else shown(got)))
     for label, texts in (("in flight", depends), ("one chain at a time", b"")):
@@ -382,8 +382,8 @@ def on_less(player: Player, program: Program) -> List[Outcome]:
     return outcomes
 
 
-def made_up_for(player: Player, program: Program) -> List[Outcome]:
-    """What a kernel lacks is made up for where it belongs: between what it waits for and what waits for it."""
+def corrected(player: Player, program: Program) -> List[Outcome]:
+    """What a kernel lacks is corrected where it belongs: between what it waits for and what waits for it."""
     faults, count = [], 0
     for seed in range(12):
         trace = (Wide if seed % 2 else play.Played)(seed).trace()
@@ -392,7 +392,7 @@ def made_up_for(player: Player, program: Program) -> List[Outcome]:
         got = player.steered(trace, report, ["--async", *lacking], b"", player.directories()[0], depends)
         plain = got._replace(errors=b"")  # (what lacks is told, unless the player is quiet)
         found = against(program, report, plain)
-        count += found.words.count("lacks")
+        count += found.words.count("unsupported")
         faults += ["{}: {}".format(seed, found.fault)] if found.fault else []
     return [Outcome("flight: what a kernel lacks", first(faults) or (None if count > 100 else "only {} lack".format(count)))]
 
@@ -479,7 +479,7 @@ def jobs(programs: List[Program]) -> List[Job]:
     if lacking:
         return [lambda: skipped("the player in flight", lacking)]
     program = programs[0]
-    each: Sequence[Callable[[Player, Program], List[Outcome]]] = (planted, wide, great, at_once, texts, words, on_less, made_up_for, full_table, slow_names, many_nodes, paced, wrong_times, summed_up)
+    each: Sequence[Callable[[Player, Program], List[Outcome]]] = (planted, wide, great, at_once, texts, words, on_less, corrected, full_table, slow_names, many_nodes, paced, wrong_times, summed_up)
     found: List[Job] = [partial(it, player, program) for it in each]
     found += [partial(passed_through, player, program, it) for it in ((), ("cached",), ("writeback", "cached"))]
     found += [partial(crowded, player, program, seed) for seed in range(4)]

@@ -1,5 +1,5 @@
 #!/usr/bin/env python3
-"""The player: what this kernel and its file systems give is what is proved, but for what is marked as outside.
+"""The player: what this kernel and its file systems give is what is proved, but for what is marked as unchecked.
 
 A part of ./test. By itself it plays more: tests/play.py [--program FILE] [--drawn N] [--directory DIR ..] plays N drawn traces (2,000 if left out) in
 each directory in each mode, and counts."""
@@ -96,17 +96,17 @@ def played(player: Player, program: Program, label: str, trace: bytes, places: L
 
 
 class Share:
-    """How many entries of drawn traces were played a chain at a time, and how many of them are outside."""
+    """How many entries of drawn traces were played a chain at a time, and how many of them are unchecked."""
 
     def __init__(self, what: str) -> None:
-        self.what, self.entries, self.outside, self.lock = what, 0, 0, threading.Lock()
+        self.what, self.entries, self.unchecked, self.lock = what, 0, 0, threading.Lock()
 
     def add(self, counts: List[int]) -> None:
         with self.lock:
-            self.entries, self.outside = self.entries + sum(counts), self.outside + counts[2]
+            self.entries, self.unchecked = self.entries + sum(counts), self.unchecked + counts[2]
 
     def outcome(self) -> Outcome:
-        fault = None if 100 * (self.entries - self.outside) >= COMPARED * self.entries else "of {} entries {} are outside".format(self.entries, self.outside)
+        fault = None if 100 * (self.entries - self.unchecked) >= COMPARED * self.entries else "of {} entries {} are unchecked".format(self.entries, self.unchecked)
         return Outcome("play: most of {} is compared".format(self.what), fault)
 
 
@@ -157,8 +157,8 @@ def notices(player: Player, program: Program) -> List[Outcome]:
     return outcomes
 
 
-def made_up_for(player: Player, program: Program) -> List[Outcome]:
-    """What a kernel lacks is marked so, made up for, and all else is as it is proved."""
+def corrected(player: Player, program: Program) -> List[Outcome]:
+    """What a kernel lacks is marked so, corrected, and all else is as it is proved."""
     nowhere = AT_FDCWD & 0xffffffff
     entries = [entry(MKDIRAT, fd=AT_FDCWD, side=b"/d"), entry(RENAMEAT, fd=AT_FDCWD, length=nowhere, side=two_paths(b"/a", b"/d/b")),
                entry(LINKAT, fd=AT_FDCWD, length=nowhere, side=two_paths(b"/d/b", b"/c")), entry(UNLINKAT, fd=AT_FDCWD, side=b"/d/b"),
@@ -173,8 +173,8 @@ def made_up_for(player: Player, program: Program) -> List[Outcome]:
         words = [word for it in each for word in ("--lacking", str(it))]
         got = player.steered(trace, report, words)
         compared = program.run(["diff"], report + got.output)
-        is_well = got.status == 0 and compared.status == 0 and got.output.count(b"outside=lacks") == len(each)
-        outcomes.append(Outcome("the player: a kernel without {} is made up for".format(each), None if is_well else shown(got) + shown(compared)))
+        is_well = got.status == 0 and compared.status == 0 and got.output.count(b"unchecked=unsupported") == len(each)
+        outcomes.append(Outcome("the player: a kernel without {} is corrected".format(each), None if is_well else shown(got) + shown(compared)))
     refused = player.play(["--lacking", str(READ), TRACE])
     return [*outcomes, Outcome("the player: a kernel without READ is not played on", None if refused.status == 77 else shown(refused))]
 
@@ -223,7 +223,7 @@ def stuck(player: Player, program: Program) -> List[Outcome]:
     for label, in_rounds in (("chains", b""), ("rounds", rounds)):
         got = player.with_less(stuck_at=2).steered(trace, report, ["--patience", "1"], in_rounds)
         lines = got.output.split(b"\n")
-        told = [b" res=4 posted" in lines[2], b" silent " in lines[3], *(b"outside=stuck" in it for it in lines[4:6]), lines[6:] == [b"end", b""]]
+        told = [b" res=4 posted" in lines[2], b" silent " in lines[3], *(b"unchecked=stuck" in it for it in lines[4:6]), lines[6:] == [b"end", b""]]
         is_well = got.status == 3 and all(told) and b" not ended in 1 second" in got.errors
         outcomes.append(Outcome("the player: an entry that never ends, in {}".format(label), None if is_well else shown(got)))
     return outcomes
@@ -240,7 +240,7 @@ def on_less(player: Player, program: Program) -> List[Outcome]:
     outcomes.append(Outcome("the player: --raw without chroot", None if raw.status == UNTRIED and b"chroot" in raw.errors else shown(raw)))
     outcomes.append(Outcome("the player: a play without chroot", against(program, report, plain).fault))
     cut = head(1, 1, 1, 1) + file(b"/a", 10, b"0123456789") + description(1) + ring([1]) + enter(0, [entry(FTRUNCATE, FIXED_FILE, offset=3)])
-    for lacking, text, word in ((FTRUNCATE, cut, b"outside=lacks"), (54, trace, b"uring-report 1"), (READ, trace, b"")):
+    for lacking, text, word in ((FTRUNCATE, cut, b"unchecked=unsupported"), (54, trace, b"uring-report 1"), (READ, trace, b"")):
         expected = program.run(["serial", "--sums"], text).output
         got = player.with_less(lacking=lacking).steered(text, expected)
         is_well = got.status == 0 and word in got.output and not against(program, expected, got).fault if word else got.status == UNTRIED
@@ -450,7 +450,7 @@ def jobs(programs: List[Program]) -> List[Job]:
         return [lambda: skipped("the player", lacking), partial(play_rows.words_agree, listed_words())]
     program = programs[0]
     shares = (Share("drawn traces"), Share("drawn traces of version 3"))
-    each: List[Job] = [partial(it, player, program) for it in (limits_of_version_3, long_chains, silences, stuck, on_less, notices, made_up_for, prepared, play_rows.outcomes)]
+    each: List[Job] = [partial(it, player, program) for it in (limits_of_version_3, long_chains, silences, stuck, on_less, notices, corrected, prepared, play_rows.outcomes)]
     each += [partial(it, player) for it in (limits, unread, interrupted, too_small, rings_go, calls, sparse, statuses)]
     each += [partial(compiles, player, it) for it in ("gcc", "clang")]
     each += [partial(play_rows.words_agree, listed_words()), *play_contained.jobs(player, program), *play_reads.jobs(player, program)]
@@ -481,17 +481,17 @@ def more() -> int:
     failed = 0
     for place in given.directory or player.directories():
         for mode in MODES:
-            sums, outside, faults = Counter(), Counter(), []
+            sums, unchecked, faults = Counter(), Counter(), []
             for seed in range(given.drawn):
                 trace = Played(seed).trace()
                 found = player.compared(program, trace, answers(program, trace).output, mode, place)
                 sums.update({section: counts[0] for section, counts in found.counts.items()})
-                outside.update(found.words)
+                unchecked.update(found.words)
                 faults += ["drawn {}: {}".format(seed, found.fault)] if found.fault else []
             failed += len(faults)
-            share = 100 * sums["entries"] / max(sums["entries"] + sum(outside.values()), 1)
-            print("{} {}: {} of {} traces differ; equal: {}; {:.1f}% of the entries compared; outside: {}".format(
-                place, mode, len(faults), given.drawn, dict(sums), share, dict(outside.most_common())), flush=True)
+            share = 100 * sums["entries"] / max(sums["entries"] + sum(unchecked.values()), 1)
+            print("{} {}: {} of {} traces differ; equal: {}; {:.1f}% of the entries compared; unchecked: {}".format(
+                place, mode, len(faults), given.drawn, dict(sums), share, dict(unchecked.most_common())), flush=True)
             for fault in faults[:10]:
                 print("  " + fault)
     return 1 if failed else 0

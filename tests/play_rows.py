@@ -14,7 +14,7 @@ from traces import description, directory, enter, entry, file, head, ring, descr
 
 POSITION, NOWHERE = (1 << 64) - 1, AT_FDCWD & 0xffffffff
 # Words of the play itself, which are no row: docs/PLAYING.md.
-OF_THE_PLAY = {"space", "lacks", "stuck"}
+OF_THE_PLAY = {"space", "unsupported", "stuck"}
 # How often a race is tried.
 TRIES = 10
 
@@ -176,7 +176,7 @@ def transient_opens(player: Player, program: Program) -> Optional[str]:
     trace = head(len(deep) + 1, 1, 1, 1, 2, 2) + items + description(1) + descriptor_table([1, 0]) + ring() + enter(0, opens)
     report, rounds = program.run(["serial"], trace).output, program.run(["rounds", "--window", "64"], trace).output
     for _ in range(TRIES):
-        if b" outside=opens" in player.steered(trace, report, ["--async"], rounds, player.directories()[-1]).output:
+        if b" unchecked=emfile" in player.steered(trace, report, ["--async"], rounds, player.directories()[-1]).output:
             return None
     return "not seen in {} tries".format(TRIES)
 
@@ -184,12 +184,12 @@ def transient_opens(player: Player, program: Program) -> Optional[str]:
 def given(player: Player, program: Program) -> Optional[str]:
     """A given entry is left out, whatever it asks for; what it breaks by the answers is not played either, and what it passes is."""
     made = [record_traces.given(with_flags(entry(READ, FIXED_FILE, length=4), LINK), 7, fails) for fails in (False, True)]
-    for it, wanted in zip(made, (b"res=0 posted op=0", b"op=0 outside=links")):
+    for it, wanted in zip(made, (b"res=0 posted op=0", b"op=0 unchecked=links")):
         trace = world_3(it, entry(NOP))
         report = program.run(["serial"], trace)
         got = player.steered(trace, report.output, [], b"", player.directories()[-1])
         lines = lines_of(got.output)
-        if got.status or not lines.get(1, b"").endswith(b"op=22 outside=given") or not lines.get(2, b"").endswith(wanted):
+        if got.status or not lines.get(1, b"").endswith(b"op=22 unchecked=given") or not lines.get(2, b"").endswith(wanted):
             return "fault: {} {}".format(shown(report), shown(got))
     return None
 
@@ -218,7 +218,7 @@ def words_agree(listed: List[str]) -> List[Outcome]:
     """The rows, the words of docs/FORMAT.md and those of the code are the same, and each row is played here."""
     _, found = page()
     with open(os.path.join(SOURCES, "apart.c")) as opened:
-        coded = set(re.findall(r'\[APART_\w+\] = "(\w+)"', opened.read()))
+        coded = set(re.findall(r'\[APART_\w+\] = "([\w-]+)"', opened.read()))
     of_rows = {it.strip("`") for it in found.values() if it.startswith("`")}
     mine = {it.what for it in rows()} | set(APART)
     faults = ["docs/LINUX.md lacks a row that is played: {}".format(it) for it in mine - set(found)]

@@ -22,12 +22,13 @@ SECTIONS = ("entries", "tree", "slots", "buffers")
 
 class Compared(NamedTuple):
     """A play held against the answers: what is wrong, if anything is, or why it could not be tried; of each section how many lines are equal,
-    different, unchecked and given; and the words of those that are unchecked."""
+    different, unchecked and given; the words of those that are unchecked; and of how many entries the bytes were not compared."""
 
     fault: Optional[str]
     untried: Optional[str]
     counts: Dict[str, List[int]]
     words: List[str]
+    uncompared: int
 
 
 class Player:
@@ -104,7 +105,9 @@ class Player:
     def compared(self, program: Program, trace: bytes, report: bytes, mode: str, directory: str, words: Sequence[str] = ()) -> Compared:
         """Plays a trace in a mode, and holds it against its report. The sums of much that is read take long, and are left out."""
         fewer = ["--no-read-sums"] if bytes_read(report) > MOST_SUMMED else []
-        return against(program, report, self.played(program, trace, report, mode, directory, [*words, *fewer]))
+        found = against(program, report, self.played(program, trace, report, mode, directory, [*words, *fewer]))
+        is_thin = found.uncompared and not fewer and not found.fault
+        return found._replace(fault="the bytes of {} entries are not compared".format(found.uncompared)) if is_thin else found
 
 
 def bytes_read(report: bytes) -> int:
@@ -124,17 +127,16 @@ def against(program: Program, report: bytes, got: Answer) -> Compared:
     """What was played beside the report, by `diff`."""
     counts: Dict[str, List[int]] = {it: [0, 0, 0, 0] for it in SECTIONS}
     if got.status == UNTRIED:
-        return Compared(None, got.errors.decode("utf-8", "replace").strip(), counts, [])
+        return Compared(None, got.errors.decode("utf-8", "replace").strip(), counts, [], 0)
     if got.status or got.errors:
-        return Compared(shown(got), None, counts, [])
+        return Compared(shown(got), None, counts, [], 0)
     found = program.run(["diff"], report + got.output)
     lines = found.output.decode("utf-8", "replace").splitlines()
-    if lines and lines[-1].startswith("not compared: "): # (files over 16 MiB have no sum)
-        lines.pop()
+    uncompared = lines.pop() if lines and lines[-1].startswith("not compared: ") else "not compared: data 0 entries"
     for section, line in zip(SECTIONS, lines[-len(SECTIONS):]):
         counts[section] = [int(it) for it in line.replace(",", "").split()[1::2]]
     is_well = found.status == 0 and not found.errors and not any(it[1] for it in counts.values())
     words = [it.split("unchecked=")[1].split()[0] for it in got.output.decode("utf-8", "replace").splitlines() if " unchecked=" in it]
     differing = [it for it in lines[:-len(SECTIONS)] if not it.startswith("~")]
     fault = None if is_well else "{} {}".format(shown(found), differing[:4])
-    return Compared(fault, None, counts, words)
+    return Compared(fault, None, counts, words, int(uncompared.split()[3]))

@@ -17,12 +17,24 @@ enum { MOST_ALLOCATED = 64 << 20 };
 #define LONG_VECTOR (1ULL << 46)
 
 const char *const apart_words[APARTS] = {
-	[APART_OPCODE] = "opcode", [APART_SELECTION] = "selection", [APART_FLAGS] = "flags",
-	[APART_SLOT] = "slot",	   [APART_PATH] = "path",	    [APART_DIRECTORY] = "directory",
-	[APART_MEMORY] = "memory", [APART_OFFSET] = "offset",	    [APART_MODE] = "mode",
-	[APART_RANGE] = "range",   [APART_LINKS] = "links",	    [APART_DOOM] = "doom",
-	[APART_TESTS] = "tests",   [APART_OPENS] = "opens",	    [APART_EITHER] = "either",
-	[APART_SPACE] = "space",   [APART_LACKS] = "lacks",	    [APART_STUCK] = "stuck",
+	[APART_OPCODE] = "opcode",
+	[APART_SELECTION] = "selection",
+	[APART_FLAGS] = "flags",
+	[APART_SLOT] = "slot",
+	[APART_PATH] = "path",
+	[APART_DIRECTORY] = "directory",
+	[APART_MEMORY] = "memory",
+	[APART_OFFSET] = "offset",
+	[APART_MODE] = "mode",
+	[APART_RANGE] = "range",
+	[APART_LINKS] = "links",
+	[APART_DOOM] = "submission",
+	[APART_TESTS] = "order-of-checks",
+	[APART_OPENS] = "emfile",
+	[APART_EITHER] = "either",
+	[APART_SPACE] = "space",
+	[APART_LACKS] = "unsupported",
+	[APART_STUCK] = "stuck",
 	[APART_GIVEN] = "given",
 };
 

@@ -1,7 +1,7 @@
 /* What a play leaves out or does not compare, and why: the table of it.
  *
  * Each rule is a row of docs/LINUX.md, whose last column has the word; or the play's own (space,
- * lacks, stuck: docs/PLAYING.md). Nothing else may be marked. */
+ * unsupported, stuck: docs/PLAYING.md). Nothing else may be marked. */
 #ifndef APART_H
 #define APART_H
 

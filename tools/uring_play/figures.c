@@ -124,7 +124,7 @@ static void say_delays(const u64 *times)
 {
 	struct figures it = delays(times);
 
-	say("submitted behind their times: 50%% %.1f, 99%% %.1f, all at most %.1f us",
+	say("submitted late by: 50%% %.1f, 99%% %.1f, all at most %.1f us",
 	    microseconds(at_share(&it, 500)), microseconds(at_share(&it, 990)),
 	    microseconds(at_share(&it, 1000)));
 	free(it.each);
@@ -132,8 +132,8 @@ static void say_delays(const u64 *times)
 
 static void say_all(const u64 *times)
 {
-	say("%" PRIu64 " entries in %.3f s (%.0f a second); %" PRIu64 " not played, %" PRIu64
-	    " made up for",
+	say("%" PRIu64 " entries in %.3f s (%.0f a second); %" PRIu64 " skipped, %" PRIu64
+	    " corrected",
 	    counts.played, counts.seconds, a_second(counts.played), counts.unplayed, counts.mended);
 	if (counts.given)
 		say("%" PRIu64 " of these have given results, and are not tried", counts.given);
@@ -145,7 +145,7 @@ static void say_all(const u64 *times)
 	if (times)
 		say_delays(times);
 	if (counts.unsaid)
-		say("%" PRIu64 " chains were taken as ended since nothing more came",
+		say("%" PRIu64 " chains were assumed done, since nothing more came",
 		    counts.unsaid);
 	if (counts.unsummed)
 		say("%" PRIu64 " reads have no sum, since they brought too much at once",
@@ -191,8 +191,8 @@ static void write_json(const u64 *times)
 {
 	fprintf(messages,
 		"{\"entries\":%" PRIu64 ",\"seconds\":%.9f,\"entries_per_second\":%.1f,"
-		"\"bytes\":%" PRIu64 ",\"bytes_per_second\":%.1f,\"not_played\":%" PRIu64
-		",\"given\":%" PRIu64 ",\"made_up_for\":%" PRIu64 ",\"taken_as_ended\":%" PRIu64
+		"\"bytes\":%" PRIu64 ",\"bytes_per_second\":%.1f,\"skipped\":%" PRIu64
+		",\"given\":%" PRIu64 ",\"corrected\":%" PRIu64 ",\"assumed_done\":%" PRIu64
 		",\"unsummed\":%" PRIu64 ",",
 		counts.played, counts.seconds, a_second(counts.played), all_bytes(),
 		a_second(all_bytes()), counts.unplayed, counts.given, counts.mended, counts.unsaid,

@@ -33,7 +33,7 @@ bool is_cut(const struct entry *entry)
 
 static void cannot(const struct entry *entry)
 {
-	say("place %u cannot be made up for: %s", entry->place, strerror(errno));
+	say("place %u cannot be corrected: %s", entry->place, strerror(errno));
 }
 
 /* --- Files --------------------------------------------------------------------------------------

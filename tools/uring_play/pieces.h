@@ -51,7 +51,7 @@ u32 hear_ring(u32 ring);
 /* What is known of an entry once it has ended, or is left out. */
 void look_at(struct entry *entry);
 /* Where something never ends nothing more can be played or looked at. What was submitted and has
- * not ended is silent, so that it differs; what was not is outside. */
+ * not ended is silent, so that it differs; what was not is unchecked. */
 void give_up(void) __attribute__((noreturn));
 /* Plays a step that is no entry: bytes of a registered buffer, or one for which nothing may be in
  * flight. */

@@ -37,7 +37,7 @@ static void write_entry(FILE *file, const struct entry *entry)
 		fprintf(file, " data-sum=%s", entry->sum);
 	fprintf(file, " op=%u", entry->sqe[0]);
 	if (entry->apart != NOT_APART)
-		fprintf(file, " outside=%s", apart_words[entry->apart]);
+		fprintf(file, " unchecked=%s", apart_words[entry->apart]);
 	if (options.depends && entry->is_submitted)
 		fprintf(file, " submitted=%" PRIu64, entry->submitted);
 	if (options.depends && entry->state == ENTRY_POSTED)
