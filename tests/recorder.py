@@ -236,7 +236,7 @@ def unreadable(program: Program) -> List[Outcome]:
     ran = ran_in(path, [built.file("uring_record"), "-o", out + ".trace", "-k", out + ".kernel", "--", built.file("harm"), "rings", "2"], user=user)
     fault = None if ran.status == 0 else fault_of(ran)
     fault = fault or accepted(program, out + ".trace") or replayed(program, out)
-    if not fault and not re.search(rb"^file /secret .*outside=unreadable$", read_file(out + ".kernel"), re.M):
+    if not fault and not re.search(rb"^file /secret .*unchecked=unreadable$", read_file(out + ".kernel"), re.M):
         fault = "the file has no mark"
     os.chmod(os.path.join(path, "closed"), 0o755)
     outcomes = [Outcome("the recorder: a file and a directory that cannot be read", fault)]
@@ -277,7 +277,7 @@ def touched(program: Program) -> List[Outcome]:
     faults += ["the bytes of {} are {}stored".format(it, "not " if it in used else "") for it in (*used, "left", "left_too")
                if ("the bytes of {}\n".format(it).encode() in trace) != (it in used)]
     faults += [it for it in (accepted(program, path + ".trace"), replayed(program, path)) if it]
-    if b"file /left size=18 outside=untouched\n" not in read_file(path + ".kernel"):
+    if b"file /left size=18 unchecked=untouched\n" not in read_file(path + ".kernel"):
         faults.append("a file that is not used has no mark")
     return [Outcome("the recorder: --touched", first(faults))]
 

@@ -74,7 +74,7 @@ def given_in(trace: bytes) -> List[Told]:
 def lines_of(kernel: str) -> List[str]:
     """What is wrong with the lines of entries that are given."""
     lines = [it for it in kernel.split("\n") if " given=1" in it]
-    return ["it is outside: " + it for it in lines if " outside=" in it] + ["it has data: " + it for it in lines if " data=" in it]
+    return ["it is outside: " + it for it in lines if " unchecked=" in it] + ["it has data: " + it for it in lines if " data=" in it]
 
 
 def of_mode(program: Program, mode: Mode, words: Sequence[str]) -> List[Outcome]:
@@ -104,7 +104,7 @@ def of_version_2(program: Program) -> List[Outcome]:
     ran = ran_in(path, [found.file("uring_record"), "--format", "2", "-o", path + ".trace", "-k", path + ".kernel", "--", found.file("given"), "served"])
     fault = fault_of(ran) if ran.status else accepted(program, path + ".trace") or replayed(program, path)
     kernel = "" if fault else read_file(path + ".kernel").decode()
-    marks = sorted(set(re.findall(r"outside=(\w+)", kernel)))
+    marks = sorted(set(re.findall(r"unchecked=(\w+)", kernel)))
     is_well = " given=" not in kernel and b"given:" not in ran.errors and marks == ["chain", "flags", "opcode"]
     return [Outcome("given results: none in version 2", fault or (None if is_well else "{}: {}".format(marks, kernel[:600])))]
 

@@ -128,12 +128,12 @@ def mode(tools: Tools, program: Program, mode: Mode, words: Sequence[str]) -> Ou
         return Outcome(label, "{}; diff: {}".format(shown(made.got), shown(made.compared)))
     if words not in ([], VERSION_2):
         return Outcome(label)
-    lacking = [it for it in (mode.marks if words else mode.marks_of_3) if "outside={}".format(it) not in made.kernel]
-    faults = ["no line has outside={}".format(it) for it in lacking]
+    lacking = [it for it in (mode.marks if words else mode.marks_of_3) if "unchecked={}".format(it) not in made.kernel]
+    faults = ["no line has unchecked={}".format(it) for it in lacking]
     if not words:
         said = re.search(rb"^uring_record: given: \d+(.*)$", made.got.errors, re.M)
         faults += ["none is given by " + it for it in mode.given if not said or ", {} ".format(it).encode() not in said[1]]
-        faults += ["it is outside, and given: " + it for it in entry_lines(made.kernel) if " given=1" in it and " outside=" in it]
+        faults += ["it is outside, and given: " + it for it in entry_lines(made.kernel) if " given=1" in it and " unchecked=" in it]
         if equal_entries(made.compared) < mode.equal:
             faults.append("fewer than {} entries are equal: {}".format(mode.equal, shown(made.compared)))
         faults += ["it is outside: " + it for it in made.kernel.split("\n") if mode.is_whole and " outside=" in it]
@@ -174,7 +174,7 @@ def shell_and_git(tools: Tools, program: Program) -> List[Outcome]:
             outcomes += skipped(label, "there is no git")
             continue
         made = record(tools, program, "git" + "".join(words), words, ["sh", "-c", SCRIPT, tools.file("ordinary")])
-        fault = None if not made.got.status and not made.compared.status and " outside=" not in made.kernel else "{}; diff: {}".format(shown(made.got), shown(made.compared))
+        fault = None if not made.got.status and not made.compared.status and " unchecked=" not in made.kernel else "{}; diff: {}".format(shown(made.got), shown(made.compared))
         outcomes.append(Outcome(label, fault or (None if equal_entries(made.compared) > 200 else "few entries are equal: {}".format(shown(made.compared)))))
     return outcomes
 

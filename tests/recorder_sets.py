@@ -76,7 +76,7 @@ def told_of(mode: Mode, trace: bytes, kernel: str) -> List[str]:
     wanted = {**mode._asdict(), "sets": list(mode.sets), "given": list(mode.given), "chosen": list(mode.chosen)}
     found = compared(model_records.report(trace).decode(), kernel)
     faults = ["{} are {}, wanted {}".format(name, it, wanted[name]) for name, it in told.items() if it != wanted[name]]
-    return found.differing + faults + ["it is outside: " + it for it in kernel.split("\n") if " outside=" in it]
+    return found.differing + faults + ["it is outside: " + it for it in kernel.split("\n") if " unchecked=" in it]
 
 
 def of_mode(program: Program, mode: Mode, words: Sequence[str]) -> List[Outcome]:

@@ -1,4 +1,4 @@
-/* The names of the opcodes that the profile serves. */
+/* The names of the operations of linux/io_uring.h. */
 #ifndef OPCODES_H
 #define OPCODES_H
 

@@ -20,6 +20,7 @@ struct note {
 	u64 records;
 	u64 places[2]; /* where the entries are kept no more: their places */
 	bool has_place[2];
+	bool is_of_all; /* it is of the whole recording, and of no place */
 };
 static struct note *notes;
 static u64 note_count, note_room;
@@ -69,6 +70,12 @@ void note_pair(const char *what, const struct entry *one, const struct entry *ot
 void note(const char *what, const struct entry *entry)
 {
 	note_pair(what, entry, NULL);
+}
+
+void note_of_all(const char *what)
+{
+	note(what, NULL);
+	note_of(what)->is_of_all = true;
 }
 
 void note_late(const struct entry *entry)
@@ -153,14 +160,23 @@ static u64 place_of(const struct note *it, unsigned which)
 	return entry ? entry->place : place_behind(it->records);
 }
 
+static const char *plural(u64 count)
+{
+	return count == 1 ? "" : "s";
+}
+
 /* Says each note, with where it came up first. */
 static void say_notes(void)
 {
 	for (u64 at = 0; at < note_count; at++) {
 		const struct note *it = &notes[at];
+		if (it->is_of_all) {
+			fprintf(stderr, "uring_record: note: %s\n", it->what);
+			continue;
+		}
 		fprintf(stderr,
 			"uring_record: note: %s (%" PRIu64 " time%s, first at place %" PRIu64,
-			it->what, it->count, it->count == 1 ? "" : "s", place_of(it, 0));
+			it->what, it->count, plural(it->count), place_of(it, 0));
 		if (it->other || it->has_place[1])
 			fprintf(stderr, " and place %" PRIu64, place_of(it, 1));
 		fputs(")\n", stderr);
@@ -220,30 +236,34 @@ void summary(u64 places, u64 bytes, u32 rings)
 	for (unsigned at = 0; at < 256; at++)
 		submitted += counts.opcodes[at];
 	fprintf(stderr,
-		"uring_record: version %d, %" PRIu64 " bytes, %" PRIu64
-		" places, %u rings, %" PRIu64 " names, %" PRIu64 " descriptions\n",
+		"uring_record: version %d, %" PRIu64 " byte%s, %" PRIu64 " step%s, %u ring%s, %" PRIu64
+		" file%s, %" PRIu64 " open file%s\n",
 		options.format == 3 ? 3
 		: trace.uses_table  ? 2
 				    : 1,
-		bytes, places, rings, trace.item_count, trace.description_count);
+		bytes, plural(bytes), places, plural(places), rings, plural(rings),
+		(u64)trace.item_count, plural(trace.item_count), (u64)trace.description_count,
+		plural(trace.description_count));
 	fprintf(stderr,
-		"uring_record: %" PRIu64 " entries: %" PRIu64 " by slot, %" PRIu64
-		" by descriptor, %" PRIu64 " at the position; %" PRIu64 " side bytes\n",
-		submitted, counts.by_slot, counts.by_descriptor, counts.at_position,
-		counts.side_bytes);
+		"uring_record: %" PRIu64 " request%s: %" PRIu64 " by descriptor, %" PRIu64
+		" by registered file, %" PRIu64 " at the file position; %" PRIu64
+		" byte%s of payload\n",
+		submitted, plural(submitted), counts.by_descriptor, counts.by_slot,
+		counts.at_position, counts.side_bytes, plural(counts.side_bytes));
 	say_opcodes();
 	say_flags();
-	say_reasons("outside", counts.outside, true);
+	say_reasons("unchecked", counts.outside, true);
 	say_reasons("given", counts.given, false);
 	fprintf(stderr,
-		"uring_record: %" PRIu64 " ordinary calls; %" PRIu64 " fills of %" PRIu64
-		" bytes\n",
-		counts.calls, counts.fills, counts.filled);
+		"uring_record: %" PRIu64 " ordinary call%s; %" PRIu64 " fill%s of %" PRIu64
+		" byte%s\n",
+		counts.calls, plural(counts.calls), counts.fills, plural(counts.fills),
+		counts.filled, plural(counts.filled));
 	if (counts.sets + counts.seeks)
 		fprintf(stderr,
-			"uring_record: %" PRIu64 " sets and %" PRIu64
-			" seeks between submissions\n",
-			counts.sets, counts.seeks);
+			"uring_record: %" PRIu64 " set%s and %" PRIu64
+			" seek%s between submissions\n",
+			counts.sets, plural(counts.sets), counts.seeks, plural(counts.seeks));
 	if (counts.not_taken)
 		fprintf(stderr,
 			"uring_record: %" PRIu64 " entries were left in the queue by a call\n",

@@ -6,6 +6,8 @@
 
 /* Notes that something is not told faithfully, at an entry (and another), or NULL for "here". */
 void note(const char *what, const struct entry *entry);
+/* Notes something of the whole recording, which has no place. */
+void note_of_all(const char *what);
 /* Notes a write whose bytes are not told for sure. */
 void note_late(const struct entry *entry);
 void note_pair(const char *what, const struct entry *one, const struct entry *other);

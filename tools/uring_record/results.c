@@ -228,7 +228,7 @@ static void write_tree(const struct final_tree *tree)
 		if (*it->tree_sum)
 			fprintf(file, " tree-sum=%s", it->tree_sum);
 		if (it->outside != INSIDE)
-			fprintf(file, " outside=%s", outside_words[it->outside]);
+			fprintf(file, " unchecked=%s", outside_words[it->outside]);
 		fputc('\n', file);
 	}
 }
@@ -267,7 +267,7 @@ static void write_entry(const struct record *record, const struct entry *entry)
 	if (entry->state == ENTRY_MADE)
 		fputs(" by=recorder", file);
 	if (entry->outside != INSIDE && !is_told_as_given)
-		fprintf(file, " outside=%s", outside_words[entry->outside]);
+		fprintf(file, " unchecked=%s", outside_words[entry->outside]);
 	if (entry->state != ENTRY_MADE)
 		fprintf(file, " submitted=%" PRIu64, entry->submitted);
 	if (entry->state == ENTRY_POSTED && !is_unseen)

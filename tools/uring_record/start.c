@@ -425,7 +425,7 @@ void start_without_submission(void)
 {
 	if (started)
 		return;
-	note("the command submitted nothing", NULL);
+	note_of_all("the command submitted nothing through io_uring");
 	start_tree();
 	begin_stream();
 }
