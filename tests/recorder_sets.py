@@ -88,7 +88,7 @@ def of_mode(program: Program, mode: Mode, words: Sequence[str]) -> List[Outcome]
         return skipped(label, ran.said().split("\n")[0])
     if not fault and words != VERSION_2:
         fault = first(told_of(mode, read_file(path + ".trace"), read_file(path + ".kernel").decode()))
-    said = " sets and {} seeks between submissions".format(mode.seeks)
+    said = " and {} seek{} between submissions".format(mode.seeks, "" if mode.seeks == 1 else "s")
     if not fault and (said in ran.said()) != (words != VERSION_2 and sum(mode.sets) + mode.seeks > 0):
         fault = ran.said()
     return [Outcome(label, fault)]
