@@ -585,7 +585,7 @@ fn diff_command<'a>(alloc: Global) -> Result<Command<'a>, AllocError>
 {
     Command::new(alloc, "diff")
         .after_help("Example: uring_replay diff a.report b.report")
-        .about("Compare two reports; facts that only one of them has are ignored, and counted")
+        .about("Compare two reports; facts that only one of them has are ignored")
         .arg(strict_flag(alloc))?
         .arg(truncated_flag(alloc))?
         .arg(show_option(alloc))
@@ -681,7 +681,7 @@ fn strict_flag<'a>(alloc: Global) -> Arg<'a>
     Arg::new(alloc, "strict")
         .long("strict")
         .action(ArgAction::SetTrue)
-        .help("End with status 4 also where bytes or sums are not compared")
+        .help("Exit with status 4 also if bytes or checksums were not compared")
 }
 
 fn truncated_flag<'a>(alloc: Global) -> Arg<'a>
@@ -690,7 +690,7 @@ fn truncated_flag<'a>(alloc: Global) -> Arg<'a>
     Arg::new(alloc, "truncated")
         .long("truncated")
         .action(ArgAction::SetTrue)
-        .help("Accept a second report without its line `end`, of a recording that was killed")
+        .help("Accept a second report without its line `end`, from a recording that was killed")
 }
 
 fn workers_option<'a>(alloc: Global) -> Arg<'a>
