@@ -136,7 +136,7 @@ def mode(tools: Tools, program: Program, mode: Mode, words: Sequence[str]) -> Ou
         faults += ["it is outside, and given: " + it for it in entry_lines(made.kernel) if " given=1" in it and " unchecked=" in it]
         if equal_entries(made.compared) < mode.equal:
             faults.append("fewer than {} entries are equal: {}".format(mode.equal, shown(made.compared)))
-        faults += ["it is outside: " + it for it in made.kernel.split("\n") if mode.is_whole and " outside=" in it]
+        faults += ["it is outside: " + it for it in made.kernel.split("\n") if mode.is_whole and " unchecked=" in it]
     return Outcome(label, first(faults))
 
 

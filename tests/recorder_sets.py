@@ -102,7 +102,7 @@ def meeting(program: Program, name: str, words: Sequence[str]) -> List[Outcome]:
     if ran.status == UNTRIED:
         return skipped(label, ran.said().split("\n")[0])
     kernel = "" if fault else read_file(path + ".kernel").decode()
-    if not fault and (name, words) == ("at_once", ["--drain"]) and re.search(" (given=1|outside=)", kernel):
+    if not fault and (name, words) == ("at_once", ["--drain"]) and re.search(" (given=1|unchecked=)", kernel):
         fault = "not all is decided"
     return [Outcome(label, fault or first(compared(model_records.report(read_file(path + ".trace")).decode(), kernel).differing))]
 
