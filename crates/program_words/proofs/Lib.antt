@@ -1,6 +1,8 @@
 mod CommandLemmas
+mod Commands
+mod Example
 mod NumberWords
 mod OptionWalk
-mod JsonWords
-mod RoundWords
+mod UseRows
+mod UseWalk
 mod WordsLemmas

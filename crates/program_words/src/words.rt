@@ -1,27 +1,25 @@
 //! The words of the command line.
-ghost use Rattle.std.specs.Prelude.{◌≡◌, ◌≤◌, ◌⊎◌, ℕ, Bool, string_bytes, IfOk, IsErrAnd, MatchResult};
-ghost use Rattle.std.specs.Prelude.{Some, codes, map};
+ghost use Rattle.std.specs.Prelude.{◌≡◌, ◌≤◌, ◌⊎◌, ℕ, string_bytes, IfOk, IsErrAnd, MatchResult};
+ghost use Rattle.std.specs.Prelude.{List, Some, codes, map};
 ghost use Rattle.std.specs.Fmt.{decimal};
 ghost use Rattle.clap.specs.Words.{App, FailsBy, app_of, fault_of, found_of, kind_of, one_text};
-ghost use Rattle.clap.specs.Words.{subcommand_rows_of, with_rule, with_subcommand};
-ghost use Rattle.program_words.specs.Words.{AreFound, AskFor, AskForHelp, AskForVersion};
-ghost use Rattle.program_words.specs.Words.{FailsByRules, GivesHelp, GivesTask, GivesVersion};
-ghost use Rattle.program_words.specs.Words.{HasApp, HasNoFiles, HasNoNames, IsFound, IsRequestFor};
-ghost use Rattle.program_words.specs.Words.{HasShown, HasSums, IsTaskFound, all_sums_flag};
-ghost use Rattle.program_words.specs.Words.{names_flag};
-ghost use Rattle.program_words.specs.Words.{HasLook, first_option, make_command, places_flag};
-ghost use Rattle.program_words.specs.Words.{HasTerms, show_command, show_option, strict_flag};
-ghost use Rattle.program_words.specs.Words.{truncated_flag};
-ghost use Rattle.program_words.specs.Words.{IsForm, form_of_flag, json_flag, text_in, with_form};
-ghost use Rattle.program_words.specs.Words.{IsCut, cut_flag, with_cut};
-ghost use Rattle.program_words.specs.Words.{IsRule, IsServedTask, check_command, compare_command};
-ghost use Rattle.program_words.specs.Words.{depends_command, diff_command, dot_flag, eager_flag};
-ghost use Rattle.program_words.specs.Words.{file_argument};
-ghost use Rattle.program_words.specs.Words.{kind_meant, not_text, output_option, replayer};
+ghost use Rattle.clap.specs.Words.{subcommand_rows_of, with_subcommand};
+ghost use Rattle.program_words.specs.Options.{CommandName, Use, all_sums_flag, cut_flag, dot_flag};
+ghost use Rattle.program_words.specs.Options.{eager_flag, file_argument, first_option, is_used};
+ghost use Rattle.program_words.specs.Options.{json_flag, names_flag, output_option, places_flag};
+ghost use Rattle.program_words.specs.Options.{second_argument, show_option, strict_flag};
+ghost use Rattle.program_words.specs.Options.{sums_flag, truncated_flag, window_option};
+ghost use Rattle.program_words.specs.Options.{workers_option};
+ghost use Rattle.program_words.specs.Words.{AreTexts, AskForHelp, AskForVersion, FailsByRules};
+ghost use Rattle.program_words.specs.Words.{GivesHelp, GivesRequest, GivesVersion, HasApp, HasFiles};
+ghost use Rattle.program_words.specs.Words.{IsCommand, IsFound, IsRequest, IsOption, IsServedTask};
+ghost use Rattle.program_words.specs.Words.{check_command, compare_command, depends_command};
+ghost use Rattle.program_words.specs.Words.{diff_command, form_of_flag, kind_meant, look_in};
+ghost use Rattle.program_words.specs.Words.{make_command, not_text, options_in, replayer};
 ghost use Rattle.program_words.specs.Words.{replayer_alone, rounds_command, run_command};
-ghost use Rattle.program_words.specs.Words.{second_argument, serial_command, sums_flag};
-ghost use Rattle.program_words.specs.Words.{window_option, with_files, with_replays};
-ghost use Rattle.program_words.specs.Words.{workers_option};
+ghost use Rattle.program_words.specs.Words.{serial_command, show_command, shown_in, sums_in};
+ghost use Rattle.program_words.specs.Words.{task_in, terms_in, with_cut, with_files, with_form};
+ghost use Rattle.program_words.specs.Words.{with_option, with_replays};
 ghost use Rattle.program_words.specs.Limits.{IsServed};
 
 use clap::error::ErrorKind;
@@ -171,15 +169,14 @@ const MOST_PLACES: u32 = 4096;
 
 /// Reads the words after the program's name: `serial` and `run`, each with `--sums`, `--all-sums` and
 /// `--names` or without, `compare`, `rounds` and `depends`, with `--dot` or without, `show` with `--places`
-/// or without, `check`, `make` or `diff`, with `--strict`
-/// and `--truncated` or without. `run` and
+/// or without, `check`, `make` or `diff`, with `--strict` and `--truncated` or without. `run` and
 /// `compare` come with the numbers of workers and of places or without, `rounds` with that of places.
 /// Each has the names of its input and output or not. Each but `compare`, `show` and `make` comes with
 /// `--json` or without, `serial` and `run` also with `--cut`. Any other words are wrong, unless they ask for help or for the version.
 pub fn read_words<'a>(alloc: Global, words: &'a [&'a str]) -> Result<Request<'a>, Usage>
-    ensures task { (form : Form) (cut : Bool) (task : Task)
-        → AskFor form cut task (map (λ word. word.now) words.now)
-        → GivesTask result form cut task }
+    ensures request { (command : CommandName) (uses : List Use)
+        → IsCommand command uses (map (λ word. word.now) words.now)
+        → GivesRequest command uses result }
     ensures help { AskForHelp (map (λ word. word.now) words.now) → GivesHelp result }
     ensures version { AskForVersion (map (λ word. word.now) words.now) → GivesVersion result }
     ensures served { IfOk result (λ request. IsServedTask request.task) }
@@ -194,9 +191,9 @@ pub fn read_words<'a>(alloc: Global, words: &'a [&'a str]) -> Result<Request<'a>
 }
 
 fn parsed<'a>(alloc: Global, words: &'a [&'a str]) -> Result<Request<'a>, Error>
-    ensures task { (form : Form) (cut : Bool) (task : Task)
-        → AskFor form cut task (map (λ word. word.now) words.now)
-        → MatchResult result (IsRequestFor form cut task)
+    ensures request { (command : CommandName) (uses : List Use)
+        → IsCommand command uses (map (λ word. word.now) words.now)
+        → MatchResult result (IsRequest command uses)
         (λ error. kind_of error ≡ ErrorKind.OutOfMemory) }
     ensures help { AskForHelp (map (λ word. word.now) words.now) → IsErrAnd result (λ error.
         (kind_of error ≡ ErrorKind.DisplayHelp) ⊎ (kind_of error ≡ ErrorKind.OutOfMemory)) }
@@ -214,9 +211,8 @@ fn parsed<'a>(alloc: Global, words: &'a [&'a str]) -> Result<Request<'a>, Error>
 
 /// What the subcommand that was named asks for.
 fn request_in<'a>(matches: &ArgMatches<'a>) -> Request<'a>
-    ensures task { (form : Form) (cut : Bool) (task : Task)
-        → IsFound form cut task (subcommand_rows_of matches.now)
-        → IsRequestFor form cut task result }
+    ensures request { (command : CommandName) (uses : List Use)
+        → IsFound command uses (subcommand_rows_of matches.now) → IsRequest command uses result }
     ensures served { IsServedTask result.task }
 {
     Request {
@@ -229,8 +225,9 @@ fn request_in<'a>(matches: &ArgMatches<'a>) -> Request<'a>
 
 /// The form that is asked for.
 fn form_in(matches: &ArgMatches<'_>) -> Form
-    ensures { (form : Form) → IsForm form (text_in (codes "json") (subcommand_rows_of matches.now))
-        → result ≡ form }
+    ensures { (command : CommandName) (uses : List Use)
+        → IsFound command uses (subcommand_rows_of matches.now)
+        → result ≡ form_of_flag (is_used (codes "json") uses) }
 {
     match matches.subcommand() {
         Some((_, chosen)) => form_of_flag(chosen.get_flag("json")),
@@ -240,8 +237,9 @@ fn form_in(matches: &ArgMatches<'_>) -> Form
 
 /// Whether the trace may be cut off.
 fn cut_in(matches: &ArgMatches<'_>) -> bool
-    ensures { (cut : Bool) → IsCut cut (text_in (codes "cut") (subcommand_rows_of matches.now))
-        → result ≡ cut }
+    ensures { (command : CommandName) (uses : List Use)
+        → IsFound command uses (subcommand_rows_of matches.now)
+        → result ≡ is_used (codes "cut") uses }
 {
     match matches.subcommand() {
         Some((_, chosen)) => chosen.get_flag("cut"),
@@ -257,7 +255,8 @@ fn form_of_flag(json: bool) -> Form
 
 /// The files that are named behind the subcommand.
 fn files_in<'a>(matches: &ArgMatches<'a>) -> Files<'a>
-    ensures { HasNoFiles (subcommand_rows_of matches.now) → HasNoNames result }
+    ensures { (command : CommandName) (uses : List Use)
+        → IsFound command uses (subcommand_rows_of matches.now) → HasFiles uses result }
 {
     match matches.subcommand() {
         Some((_, chosen)) => Files {
@@ -277,8 +276,9 @@ fn files_in<'a>(matches: &ArgMatches<'a>) -> Files<'a>
 
 /// The task of the subcommand that was named.
 fn task_in(matches: &ArgMatches<'_>) -> Task
-    ensures task { (task : Task) → IsTaskFound task (subcommand_rows_of matches.now)
-        → result ≡ task }
+    ensures task { (command : CommandName) (uses : List Use)
+        → IsFound command uses (subcommand_rows_of matches.now)
+        → result ≡ task_in command uses }
     ensures served { IsServedTask result }
 {
     match matches.subcommand() {
@@ -291,7 +291,8 @@ fn task_in(matches: &ArgMatches<'_>) -> Task
 
 /// How two reports are to be compared.
 fn terms_in(matches: &ArgMatches<'_>) -> Terms
-    ensures { (terms : Terms) → HasTerms terms (one_text (found_of matches.now)) → result ≡ terms }
+    ensures { (command : CommandName) (uses : List Use)
+        → AreTexts command uses (one_text (found_of matches.now)) → result ≡ terms_in uses }
 {
     Terms {
         strict: matches.get_flag("strict"),
@@ -301,7 +302,8 @@ fn terms_in(matches: &ArgMatches<'_>) -> Terms
 
 /// How a trace is to be shown.
 fn look_in(matches: &ArgMatches<'_>) -> Look
-    ensures { (look : Look) → HasLook look (one_text (found_of matches.now)) → result ≡ look }
+    ensures { (command : CommandName) (uses : List Use)
+        → AreTexts command uses (one_text (found_of matches.now)) → result ≡ look_in uses }
 {
     Look {
         places: matches.get_flag("places"),
@@ -311,9 +313,9 @@ fn look_in(matches: &ArgMatches<'_>) -> Look
 
 /// The options of the subcommand that was named, where it is one with a trace.
 fn options_in(matches: &ArgMatches<'_>) -> Options
-    ensures options { (options : Options)
-        → AreFound options.mode options.shown (subcommand_rows_of matches.now)
-        → result ≡ options }
+    ensures options { (command : CommandName) (uses : List Use)
+        → IsFound command uses (subcommand_rows_of matches.now)
+        → result ≡ options_in command uses }
     ensures served { IsServed result.mode }
 {
     match matches.subcommand() {
@@ -359,7 +361,8 @@ fn options_in(matches: &ArgMatches<'_>) -> Options
 
 /// What the report is to show.
 fn shown_in(matches: &ArgMatches<'_>) -> Shown
-    ensures { (shown : Shown) → HasShown shown (one_text (found_of matches.now)) → result ≡ shown }
+    ensures { (command : CommandName) (uses : List Use)
+        → AreTexts command uses (one_text (found_of matches.now)) → result ≡ shown_in uses }
 {
     Shown {
         sums: sums_in(matches),
@@ -369,7 +372,8 @@ fn shown_in(matches: &ArgMatches<'_>) -> Shown
 
 /// The sums that are asked for: all, where two words ask for some.
 fn sums_in(matches: &ArgMatches<'_>) -> SumsShown
-    ensures { (sums : SumsShown) → HasSums sums (one_text (found_of matches.now)) → result ≡ sums }
+    ensures { (command : CommandName) (uses : List Use)
+        → AreTexts command uses (one_text (found_of matches.now)) → result ≡ sums_in uses }
 {
     if matches.get_flag("all-sums") {
         SumsShown::All
@@ -441,7 +445,7 @@ fn with_second<'a>(
     command: Result<Command<'a>, AllocError>,
 ) -> Result<Command<'a>, AllocError>
     ensures { (app : App) → IfOk command.entry (HasApp app)
-        → IfOk result (λ more. HasApp (with_rule app second_argument) more) }
+        → IfOk result (λ more. HasApp (with_option app second_argument) more) }
 {
     command?.arg(second_argument(alloc))
 }
@@ -592,7 +596,7 @@ fn diff_command<'a>(alloc: Global) -> Result<Command<'a>, AllocError>
 }
 
 fn sums_flag<'a>(alloc: Global) -> Arg<'a>
-    ensures { IsRule sums_flag result }
+    ensures { IsOption sums_flag result }
 {
     Arg::new(alloc, "sums")
         .long("sums")
@@ -601,7 +605,7 @@ fn sums_flag<'a>(alloc: Global) -> Arg<'a>
 }
 
 fn all_sums_flag<'a>(alloc: Global) -> Arg<'a>
-    ensures { IsRule all_sums_flag result }
+    ensures { IsOption all_sums_flag result }
 {
     Arg::new(alloc, "all-sums")
         .long("all-sums")
@@ -610,7 +614,7 @@ fn all_sums_flag<'a>(alloc: Global) -> Arg<'a>
 }
 
 fn names_flag<'a>(alloc: Global) -> Arg<'a>
-    ensures { IsRule names_flag result }
+    ensures { IsOption names_flag result }
 {
     Arg::new(alloc, "names")
         .long("names")
@@ -619,7 +623,7 @@ fn names_flag<'a>(alloc: Global) -> Arg<'a>
 }
 
 fn dot_flag<'a>(alloc: Global) -> Arg<'a>
-    ensures { IsRule dot_flag result }
+    ensures { IsOption dot_flag result }
 {
     Arg::new(alloc, "dot")
         .long("dot")
@@ -628,7 +632,7 @@ fn dot_flag<'a>(alloc: Global) -> Arg<'a>
 }
 
 fn json_flag<'a>(alloc: Global) -> Arg<'a>
-    ensures { IsRule json_flag result }
+    ensures { IsOption json_flag result }
 {
     Arg::new(alloc, "json")
         .long("json")
@@ -637,7 +641,7 @@ fn json_flag<'a>(alloc: Global) -> Arg<'a>
 }
 
 fn cut_flag<'a>(alloc: Global) -> Arg<'a>
-    ensures { IsRule cut_flag result }
+    ensures { IsOption cut_flag result }
 {
     Arg::new(alloc, "cut")
         .long("cut")
@@ -648,7 +652,7 @@ fn cut_flag<'a>(alloc: Global) -> Arg<'a>
 }
 
 fn places_flag<'a>(alloc: Global) -> Arg<'a>
-    ensures { IsRule places_flag result }
+    ensures { IsOption places_flag result }
 {
     Arg::new(alloc, "places")
         .long("places")
@@ -657,7 +661,7 @@ fn places_flag<'a>(alloc: Global) -> Arg<'a>
 }
 
 fn first_option<'a>(alloc: Global) -> Arg<'a>
-    ensures { IsRule first_option result }
+    ensures { IsOption first_option result }
 {
     Arg::new(alloc, "first")
         .long("first")
@@ -667,7 +671,7 @@ fn first_option<'a>(alloc: Global) -> Arg<'a>
 }
 
 fn show_option<'a>(alloc: Global) -> Arg<'a>
-    ensures { IsRule show_option result }
+    ensures { IsOption show_option result }
 {
     Arg::new(alloc, "show")
         .long("show")
@@ -676,7 +680,7 @@ fn show_option<'a>(alloc: Global) -> Arg<'a>
 }
 
 fn strict_flag<'a>(alloc: Global) -> Arg<'a>
-    ensures { IsRule strict_flag result }
+    ensures { IsOption strict_flag result }
 {
     Arg::new(alloc, "strict")
         .long("strict")
@@ -685,7 +689,7 @@ fn strict_flag<'a>(alloc: Global) -> Arg<'a>
 }
 
 fn truncated_flag<'a>(alloc: Global) -> Arg<'a>
-    ensures { IsRule truncated_flag result }
+    ensures { IsOption truncated_flag result }
 {
     Arg::new(alloc, "truncated")
         .long("truncated")
@@ -694,7 +698,7 @@ fn truncated_flag<'a>(alloc: Global) -> Arg<'a>
 }
 
 fn workers_option<'a>(alloc: Global) -> Arg<'a>
-    ensures { IsRule workers_option result }
+    ensures { IsOption workers_option result }
 {
     Arg::new(alloc, "workers")
         .long("workers")
@@ -705,7 +709,7 @@ fn workers_option<'a>(alloc: Global) -> Arg<'a>
 }
 
 fn window_option<'a>(alloc: Global) -> Arg<'a>
-    ensures { IsRule window_option result }
+    ensures { IsOption window_option result }
 {
     Arg::new(alloc, "window")
         .long("window")
@@ -716,7 +720,7 @@ fn window_option<'a>(alloc: Global) -> Arg<'a>
 }
 
 fn eager_flag<'a>(alloc: Global) -> Arg<'a>
-    ensures { IsRule eager_flag result }
+    ensures { IsOption eager_flag result }
 {
     Arg::new(alloc, "eager")
         .long("eager")
@@ -725,13 +729,13 @@ fn eager_flag<'a>(alloc: Global) -> Arg<'a>
 }
 
 fn file_argument<'a>(alloc: Global, help: &'a str) -> Arg<'a>
-    ensures { IsRule file_argument result }
+    ensures { IsOption file_argument result }
 {
     Arg::new(alloc, "file").value_name("FILE").help(help)
 }
 
 fn second_argument<'a>(alloc: Global) -> Arg<'a>
-    ensures { IsRule second_argument result }
+    ensures { IsOption second_argument result }
 {
     Arg::new(alloc, "second")
         .value_name("SECOND")
@@ -739,7 +743,7 @@ fn second_argument<'a>(alloc: Global) -> Arg<'a>
 }
 
 fn output_option<'a>(alloc: Global) -> Arg<'a>
-    ensures { IsRule output_option result }
+    ensures { IsOption output_option result }
 {
     Arg::new(alloc, "output")
         .short('o')

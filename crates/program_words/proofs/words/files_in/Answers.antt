@@ -1,14 +1,18 @@
-use Rattle.std.proofs.Common.{codes}
-use Rattle.program_words.proofs.WordsLemmas.{no_name}
+use Rattle.std.proofs.Common.{codes, refl}
+use Rattle.clap.specs.Words.{subcommand_rows_of}
+use Rattle.program_words.proofs.WordsLemmas.{name_told, none_chosen}
 use Rattle.program_words.proofs.words.files_in.Goals as goal
 
 pub returns-in-Some : goal.returns-in-Some
 returns-in-Some c =
     let chosen = c.in-Some.chosen.now in
     let rows = c.in-Some.ensures.rows in
-    λ none. (
-      no_name c.args.matches.now chosen (codes "file") (λ s. s.now) c.get_str.result rows c.get_str.ensures none.0,
-      no_name c.args.matches.now chosen (codes "second") (λ s. s.now) c.get_str-in-Some.result rows c.get_str-in-Some.ensures none.1,
-      no_name c.args.matches.now chosen (codes "output") (λ s. s.now) c.get_str-in-Some-3.result rows c.get_str-in-Some-3.ensures none.2,
-      no_name c.args.matches.now chosen (codes "show") (λ s. s.now) c.get_str-in-Some-2.result rows c.get_str-in-Some-2.ensures none.3,
-    )
+    λ command uses found. record {
+      input = name_told c.args.matches.now chosen command uses (codes "file") (λ s. s.now) c.get_str.result rows c.get_str.ensures found refl;
+      second = name_told c.args.matches.now chosen command uses (codes "second") (λ s. s.now) c.get_str-in-Some.result rows c.get_str-in-Some.ensures found refl;
+      trace = name_told c.args.matches.now chosen command uses (codes "show") (λ s. s.now) c.get_str-in-Some-2.result rows c.get_str-in-Some-2.ensures found refl;
+      output = name_told c.args.matches.now chosen command uses (codes "output") (λ s. s.now) c.get_str-in-Some-3.result rows c.get_str-in-Some-3.ensures found refl;
+    }
+
+pub returns-in-None : goal.returns-in-None
+returns-in-None c = λ command uses found. none_chosen (subcommand_rows_of c.args.matches.now) command uses c.in-None.ensures.rows found

@@ -1,4 +1,10 @@
 use Rattle.program_words.proofs.words.request_in.Goals as goal
 
-pub returns-clause-task : goal.returns-clause-task
-returns-clause-task c = λ form cut task asked. (c.task_in.ensures.task task asked.0, c.files_in.ensures asked.1.0, c.form_in.ensures form asked.1.1, c.cut_in.ensures cut asked.1.2)
+pub returns-clause-request : goal.returns-clause-request
+returns-clause-request c =
+    λ command uses found. record {
+      task = c.task_in.ensures.task command uses found;
+      files = c.files_in.ensures command uses found;
+      form = c.form_in.ensures command uses found;
+      may_be_cut = c.cut_in.ensures command uses found;
+    }

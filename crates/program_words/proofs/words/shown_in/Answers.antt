@@ -1,8 +1,11 @@
+use Rattle.std.proofs.Common.{ap₂, codes, refl}
 use Rattle.clap.specs.Words.{found_of, one_text}
-use Rattle.program_words.proofs.WordsLemmas.{shown_made}
+use Rattle.program_words.proofs.WordsLemmas.{flag_told}
 use Rattle.program_words.proofs.words.shown_in.Goals as goal
 
 pub returns : goal.returns
 returns c =
-    λ shown found. shown_made c.sums_in.result c.get_flag.result shown (one_text (found_of c.args.matches.now)) found (c.sums_in.ensures shown.sums found.0)
-    (c.get_flag.ensures.value, c.get_flag.ensures.other)
+    λ command uses are.
+    ap₂ (λ s n. record { sums = s; names = n }) (c.sums_in.ensures command uses are)
+    (flag_told command uses (one_text (found_of c.args.matches.now)) (codes "names") c.get_flag.result refl are
+    (record { none = c.get_flag.ensures.none; value = c.get_flag.ensures.value; other = c.get_flag.ensures.other }))

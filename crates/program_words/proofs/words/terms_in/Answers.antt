@@ -1,8 +1,14 @@
+use Rattle.std.proofs.Common.{ap₂, codes, refl}
 use Rattle.clap.specs.Words.{found_of, one_text}
-use Rattle.program_words.proofs.WordsLemmas.{terms_made}
+use Rattle.program_words.proofs.WordsLemmas.{flag_told}
 use Rattle.program_words.proofs.words.terms_in.Goals as goal
 
 pub returns : goal.returns
 returns c =
-    λ terms found. terms_made c.get_flag.result c.get_flag-2.result terms (one_text (found_of c.args.matches.now)) found
-    (c.get_flag.ensures.value, c.get_flag.ensures.other) (c.get_flag-2.ensures.value, c.get_flag-2.ensures.other)
+    λ command uses are.
+    let text = one_text (found_of c.args.matches.now) in
+    let strict = c.get_flag.ensures in
+    let truncated = c.get_flag-2.ensures in
+    ap₂ (λ s t. record { strict = s; truncated = t })
+    (flag_told command uses text (codes "strict") c.get_flag.result refl are (record { none = strict.none; value = strict.value; other = strict.other }))
+    (flag_told command uses text (codes "truncated") c.get_flag-2.result refl are (record { none = truncated.none; value = truncated.value; other = truncated.other }))
