@@ -121,6 +121,8 @@ pub(crate) fn comparison_of_two<R: Source, S: Source>(
         × ConsumesUpTo most_taken (S.left second.old) (S.left second.new) }
     ensures err { IfErr result (TellsOfTwoReports terms (R.left first.old) (R.left first.new)
         (S.left second.old) (S.left second.new)) }
+    ensures read { R.failures first.new + S.failures second.new
+        ≡ R.failures first.old + S.failures second.old + read_failures result }
     ensures write { write_failures result ≡ 0 }
     ensures neither { IfErr result
         (λ fault. (fault ≢ RunFault.Write) × (fault ≢ RunFault.Different)) }

@@ -1,7 +1,7 @@
 //! A comparison of two reports, with the entries of a trace, from readers to a writer.
 ghost use Rattle.std.specs.Prelude.{◌≡◌, ◌≢◌, ◌+◌, ◌-◌, ◌^◌, ◌<◌, IfErr, IfOk, OnOk, false, true};
 ghost use Rattle.std.specs.Io.KnownBytes.{Keeps};
-ghost use Rattle.replay_program.specs.Runs.{TakesTrace, most_taken, write_failures};
+ghost use Rattle.replay_program.specs.Runs.{TakesTrace, most_taken, read_failures, write_failures};
 ghost use Rattle.replay_program.specs.ShownDiffs.{ComparesShown, ComparesShownTwo, TellsOfShown};
 ghost use Rattle.replay_program.specs.ShownDiffs.{TellsOfShownTwo, WritesShownDifferences};
 ghost use Rattle.replay_program.specs.ShownDiffs.{WritesShownDifferencesOfTwo};
@@ -52,6 +52,8 @@ pub fn run_diff_shown<T: Source, R: Source, W: Sink>(
         × ConsumesUpTo most_taken (R.left reader.old) (R.left reader.new) }
     ensures reading { IfErr result (TellsOfShown terms (T.left trace.old) (T.left trace.new)
         (R.left reader.old) (R.left reader.new)) }
+    ensures read { T.failures trace.new + R.failures reader.new
+        ≡ T.failures trace.old + R.failures reader.old + read_failures result }
     ensures write { W.failures writer.new ≡ W.failures writer.old + write_failures result }
 {
     let comparison = shown_comparison(alloc, trace, reader, terms)?;
@@ -79,6 +81,8 @@ fn shown_comparison<T: Source, R: Source>(
         × ConsumesUpTo most_taken (R.left reader.old) (R.left reader.new) }
     ensures err { IfErr result (TellsOfShown terms (T.left trace.old) (T.left trace.new)
         (R.left reader.old) (R.left reader.new)) }
+    ensures read { T.failures trace.new + R.failures reader.new
+        ≡ T.failures trace.old + R.failures reader.old + read_failures result }
     ensures write { write_failures result ≡ 0 }
     ensures neither { IfErr result
         (λ fault. (fault ≢ RunFault.Write) × (fault ≢ RunFault.Different)) }
@@ -154,6 +158,8 @@ pub fn run_diff_of_two_shown<T: Source, R: Source, S: Source, W: Sink>(
         × ConsumesUpTo most_taken (S.left second.old) (S.left second.new)) }
     ensures reading { IfErr result (TellsOfShownTwo terms (T.left trace.old) (T.left trace.new)
         (R.left first.old) (R.left first.new) (S.left second.old) (S.left second.new)) }
+    ensures read { T.failures trace.new + (R.failures first.new + S.failures second.new)
+        ≡ T.failures trace.old + (R.failures first.old + S.failures second.old) + read_failures result }
     ensures write { W.failures writer.new ≡ W.failures writer.old + write_failures result }
 {
     let comparison = shown_comparison_of_two(alloc, trace, first, second, terms)?;
@@ -183,6 +189,8 @@ fn shown_comparison_of_two<T: Source, R: Source, S: Source>(
         × ConsumesUpTo most_taken (S.left second.old) (S.left second.new)) }
     ensures err { IfErr result (TellsOfShownTwo terms (T.left trace.old) (T.left trace.new)
         (R.left first.old) (R.left first.new) (S.left second.old) (S.left second.new)) }
+    ensures read { T.failures trace.new + (R.failures first.new + S.failures second.new)
+        ≡ T.failures trace.old + (R.failures first.old + S.failures second.old) + read_failures result }
     ensures write { write_failures result ≡ 0 }
     ensures neither { IfErr result
         (λ fault. (fault ≢ RunFault.Write) × (fault ≢ RunFault.Different)) }

@@ -2,7 +2,7 @@ use Rattle.std.proofs.Common.{refl}
 use Rattle.std.proofs.KnownBytes.{Keeps-refl}
 use Rattle.replay_program.specs.declared.fault.RunFault.TheVariants.{Different}
 use Rattle.replay_program.proofs.ShownDifferences.{part_shown}
-use Rattle.replay_program.proofs.Faults.{gives_nothing, not_by, by, named, writes, adds_none, write_is_not_different, different_is_not_write}
+use Rattle.replay_program.proofs.Faults.{gives_nothing, not_by, by, named, reads, writes, adds_none, write_is_not_different, different_is_not_write}
 use Rattle.replay_program.proofs.explaining.run_diff_shown.Goals as goal
 
 pub returns-in_err-comparison : goal.returns-in_err-comparison
@@ -16,6 +16,7 @@ returns-in_err-comparison g c =
       nothing = by _ _ e ended (λ no_write same. Keeps-refl _);
       taken = c.in_err-comparison.ensures.taken;
       reading = by _ _ e ended c.in_err-comparison.ensures.err;
+      read = reads _ e _ _ ended c.in_err-comparison.ensures.read;
       write = writes _ e _ _ ended (adds_none _ _ c.in_err-comparison.ensures.write);
     }
 
@@ -31,6 +32,7 @@ returns-in_err-written g c =
       nothing = by _ _ _ ended (λ no_write same. absurd (no_write refl));
       taken = found.taken;
       reading = by _ _ _ ended ((found.ok.t, found.ok.spelled), (found.ok.input, found.ok.read));
+      read = reads _ _ _ _ ended found.read;
       write = writes _ e _ _ c.from_residual-in_err-written.ensures.1 c.in_err-written.ensures.write;
     }
 
