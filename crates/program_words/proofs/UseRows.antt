@@ -18,7 +18,7 @@ use Rattle.program_words.specs.Options.{AreUses, IsUse, IsValueFor, Kind, Opt, U
 use Rattle.program_words.proofs.NumberWords.{decimal_reads}
 use Rattle.program_words.proofs.UseWalk.{Fits, Stands, at_absent, built_by, built_of, row_of}
 
--- a word that a hyphen and another make an option
+-- a word that may follow two hyphens
 abbrev is_word : Text → Bool
 is_word [] = false
 is_word (x ∷ rest) = not (has_byte 61 (x ∷ rest)) && bytes_eq (before_first (λ y. y == 61) (x ∷ rest)) (x ∷ rest)

@@ -24,14 +24,14 @@ name_of show = codes "show"
 name_of make = codes "make"
 name_of diff = codes "diff"
 
--- What an option takes: nothing; a number from 1 to a limit, with the text of the one that it has where it is not used; or the name of a file, also by a letter. A `file` is no option, but a name of a file that stands alone, at its place among these.
+-- What an option takes: nothing; a number from 1 to a limit, maybe with a default; or the name of a file, maybe with a short form. A `file` is not an option: it is the name of a file that stands alone, at this place among such names.
 pub data Kind : Type 0 where
   flag : Kind
   number : (most : ℕ) → (default : Option (List ℕ)) → Kind
   name : (short : Option ℕ) → Kind
   file : (place : ℕ) → Kind
 
--- An option: its word, without the hyphens, the words that stand for it and that help does not tell, what it takes, and the commands that have it.
+-- An option: its word without the hyphens, other words for it that help does not show, what it takes, and the commands that have it.
 pub record Opt : Type 0 where
   pub word : List ℕ
   pub hidden : List (List ℕ)
@@ -95,7 +95,7 @@ json_flag = row (codes "json") flag (serial ∷ run ∷ rounds ∷ depends ∷ c
 abbrev pub cut_flag : Opt
 cut_flag = row (codes "cut") flag (serial ∷ run ∷ [])
 
--- All of them, in the order in which help tells them.
+-- All options, in the order in which help shows them.
 abbrev pub table : List Opt
 table = workers_option
     ∷ window_option
@@ -119,7 +119,7 @@ table = workers_option
 abbrev pub has_command : CommandName → Opt → Bool
 has_command c o = list_any (λ d. bytes_eq (name_of d) (name_of c)) o.commands
 
--- Those of a command.
+-- The options of a command.
 abbrev pub options_of : CommandName → List Opt
 options_of c = filter (has_command c) table
 
@@ -154,7 +154,7 @@ abbrev pub words_of : List Use → List (List ℕ)
 words_of [] = []
 words_of (u ∷ uses) = words_by u.option.kind u.word u.value ++ words_of uses
 
--- A text is no option, and so may be the name of a file: it does not begin with a hyphen, or is one.
+-- A text that may be the name of a file: it does not begin with a hyphen, or it is a single hyphen.
 abbrev pub is_name : List ℕ → Bool
 is_name [] = true
 is_name (x ∷ rest) = not (x == 45) || is_empty rest
@@ -165,7 +165,7 @@ IsValueFor (number most default) value = (n : ℕ) × (value ≡ decimal n) × (
 IsValueFor (name short) value = is_name value ≡ true
 IsValueFor (file place) value = is_name value ≡ true
 
--- The option of a command that a word means, and its file at a place.
+-- The option that a word means, and the file at a place.
 abbrev pub answers_by : Kind → Opt → List ℕ → Bool
 answers_by (file place) o word = false
 answers_by _ o word = bytes_eq o.word word || list_any (λ hidden. bytes_eq hidden word) o.hidden
@@ -191,7 +191,7 @@ place_after _ place = place
 abbrev pub use_of : List ℕ → List Use → Option Use
 use_of word uses = find (λ u. bytes_eq u.option.word word) uses
 
--- A use that the command takes behind others, where the next file is the one at this place: it has the option, takes the value, and the option was not used before.
+-- A use that may come after these: the command has the option, the value fits, and the option was not used before. The place is that of the next file.
 pub record IsUse (options : List Opt) (place : ℕ) (before : List Use) (u : Use) : Type 0 where
   pub known : option_met u.option.kind place u.word options ≡ Some u.option
   pub taken : IsValueFor u.option.kind u.value
@@ -202,13 +202,14 @@ abbrev pub AreUses : List Opt → (place : ℕ) → (before : List Use) → List
 AreUses options place before [] = ⊤
 AreUses options place before (u ∷ uses) = IsUse options place before u × AreUses options (place_after u.option.kind place) (before ++ u ∷ []) uses
 
--- The value of an option: of its use, or else the one that it has where it is not used.
+-- The value that the uses give an option.
 abbrev pub value_of : List ℕ → List Use → Option (List ℕ)
 value_of word uses = option_map (λ u. u.value) (use_of word uses)
 
 abbrev pub is_used : List ℕ → List Use → Bool
 is_used word uses = is_some (use_of word uses)
 
+-- The value of an option that is not used.
 abbrev pub default_by : Kind → Option (List ℕ)
 default_by flag = Some (codes "false")
 default_by (number most default) = default

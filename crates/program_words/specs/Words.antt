@@ -80,15 +80,15 @@ form_of_flag false = forms.Text
 form_of_flag true = forms.Json
 
 -- The request: the task, each name of a file as it was given, the form, and whether the trace may be cut off.
-pub record HasFiles (uses : List Use) (files : Files) : Type 0 where
-  pub input : option_map (λ s. s.now) files.input ≡ value_of (codes "file") uses
-  pub second : option_map (λ s. s.now) files.second ≡ value_of (codes "second") uses
-  pub trace : option_map (λ s. s.now) files.trace ≡ value_of (codes "show") uses
-  pub output : option_map (λ s. s.now) files.output ≡ value_of (codes "output") uses
+pub record HasFiles (name : List ℕ → Option (List ℕ)) (files : Files) : Type 0 where
+  pub input : option_map (λ s. s.now) files.input ≡ name (codes "file")
+  pub second : option_map (λ s. s.now) files.second ≡ name (codes "second")
+  pub trace : option_map (λ s. s.now) files.trace ≡ name (codes "show")
+  pub output : option_map (λ s. s.now) files.output ≡ name (codes "output")
 
 pub record IsRequest (command : CommandName) (uses : List Use) (request : Request) : Type 0 where
   pub task : request.task ≡ task_in command uses
-  pub files : HasFiles uses request.files
+  pub files : HasFiles (λ word. value_of word uses) request.files
   pub form : request.form ≡ form_of_flag (is_used (codes "json") uses)
   pub may_be_cut : request.may_be_cut ≡ is_used (codes "cut") uses
 

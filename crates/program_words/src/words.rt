@@ -2,14 +2,15 @@
 ghost use Rattle.std.specs.Prelude.{◌≡◌, ◌≤◌, ◌⊎◌, ℕ, string_bytes, IfOk, IsErrAnd, MatchResult};
 ghost use Rattle.std.specs.Prelude.{List, Some, codes, map};
 ghost use Rattle.std.specs.Fmt.{decimal};
-ghost use Rattle.clap.specs.Words.{App, FailsBy, app_of, fault_of, found_of, kind_of, one_text};
+ghost use Rattle.clap.specs.Words.{App, FailsBy, app_of, fault_of, first_value, found_of, kind_of};
+ghost use Rattle.clap.specs.Words.{one_text};
 ghost use Rattle.clap.specs.Words.{subcommand_rows_of, with_subcommand};
 ghost use Rattle.program_words.specs.Options.{CommandName, Use, all_sums_flag, cut_flag, dot_flag};
 ghost use Rattle.program_words.specs.Options.{eager_flag, file_argument, first_option, is_used};
 ghost use Rattle.program_words.specs.Options.{json_flag, names_flag, output_option, places_flag};
 ghost use Rattle.program_words.specs.Options.{second_argument, show_option, strict_flag};
-ghost use Rattle.program_words.specs.Options.{sums_flag, truncated_flag, window_option};
-ghost use Rattle.program_words.specs.Options.{workers_option};
+ghost use Rattle.program_words.specs.Options.{sums_flag, truncated_flag, value_of};
+ghost use Rattle.program_words.specs.Options.{window_option, workers_option};
 ghost use Rattle.program_words.specs.Words.{AreTexts, AskForHelp, AskForVersion, FailsByRules};
 ghost use Rattle.program_words.specs.Words.{GivesHelp, GivesRequest, GivesVersion, HasApp, HasFiles};
 ghost use Rattle.program_words.specs.Words.{IsCommand, IsFound, IsRequest, IsOption, IsServedTask};
@@ -256,21 +257,29 @@ fn form_of_flag(json: bool) -> Form
 /// The files that are named behind the subcommand.
 fn files_in<'a>(matches: &ArgMatches<'a>) -> Files<'a>
     ensures { (command : CommandName) (uses : List Use)
-        → IsFound command uses (subcommand_rows_of matches.now) → HasFiles uses result }
+        → IsFound command uses (subcommand_rows_of matches.now)
+        → HasFiles (λ word. value_of word uses) result }
 {
     match matches.subcommand() {
-        Some((_, chosen)) => Files {
-            input: chosen.get_str("file"),
-            second: chosen.get_str("second"),
-            trace: chosen.get_str("show"),
-            output: chosen.get_str("output"),
-        },
+        Some((_, chosen)) => files_of(chosen),
         None => Files {
             input: None,
             second: None,
             trace: None,
             output: None,
         },
+    }
+}
+
+/// The files that the words behind a subcommand name.
+fn files_of<'a>(chosen: &ArgMatches<'a>) -> Files<'a>
+    ensures { HasFiles (first_value (found_of chosen.now)) result }
+{
+    Files {
+        input: chosen.get_str("file"),
+        second: chosen.get_str("second"),
+        trace: chosen.get_str("show"),
+        output: chosen.get_str("output"),
     }
 }
 

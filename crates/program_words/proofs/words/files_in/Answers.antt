@@ -7,11 +7,12 @@ pub returns-in-Some : goal.returns-in-Some
 returns-in-Some c =
     let chosen = c.in-Some.chosen.now in
     let rows = c.in-Some.ensures.rows in
+    let names = c.files_of.ensures in
     λ command uses found. record {
-      input = name_told c.args.matches.now chosen command uses (codes "file") (λ s. s.now) c.get_str.result rows c.get_str.ensures found refl;
-      second = name_told c.args.matches.now chosen command uses (codes "second") (λ s. s.now) c.get_str-in-Some.result rows c.get_str-in-Some.ensures found refl;
-      trace = name_told c.args.matches.now chosen command uses (codes "show") (λ s. s.now) c.get_str-in-Some-2.result rows c.get_str-in-Some-2.ensures found refl;
-      output = name_told c.args.matches.now chosen command uses (codes "output") (λ s. s.now) c.get_str-in-Some-3.result rows c.get_str-in-Some-3.ensures found refl;
+      input = name_told c.args.matches.now chosen command uses (codes "file") (λ s. s.now) c.files_of.result.input rows names.input found refl;
+      second = name_told c.args.matches.now chosen command uses (codes "second") (λ s. s.now) c.files_of.result.second rows names.second found refl;
+      trace = name_told c.args.matches.now chosen command uses (codes "show") (λ s. s.now) c.files_of.result.trace rows names.trace found refl;
+      output = name_told c.args.matches.now chosen command uses (codes "output") (λ s. s.now) c.files_of.result.output rows names.output found refl;
     }
 
 pub returns-in-None : goal.returns-in-None
