@@ -43,7 +43,7 @@ plain = shown_with false
 abbrev pub IsCommand : CommandName → List Use → List (List ℕ) → Type 0
 IsCommand command uses words = AreUses (options_of command) 1 [] uses × (words ≡ name_of command ∷ words_of uses)
 
--- What the uses ask for: a number, or this one where none is given; what a report shows, and a text of a trace; how two reports are compared.
+-- What the uses ask for: a number, or this one where none is given; what a report shows, and a text of a trace.
 abbrev pub number_in : ℕ → List ℕ → List Use → ℕ
 number_in default word uses = option_map_or (digits_value 10) (value_of word uses) default
 
@@ -56,6 +56,7 @@ shown_in uses = record { sums = sums_in uses; names = is_used (codes "names") us
 abbrev pub look_in : List Use → Look
 look_in uses = record { places = is_used (codes "places") uses; first = option_map (digits_value 10) (value_of (codes "first") uses) }
 
+-- How two reports are compared.
 abbrev pub terms_in : List Use → Terms
 terms_in uses = record { strict = is_used (codes "strict") uses; truncated = is_used (codes "truncated") uses }
 

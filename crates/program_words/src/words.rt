@@ -8,8 +8,8 @@ ghost use Rattle.clap.specs.Words.{subcommand_rows_of, with_subcommand};
 ghost use Rattle.program_words.specs.Options.{CommandName, Use, all_sums_flag, cut_flag, dot_flag};
 ghost use Rattle.program_words.specs.Options.{eager_flag, file_argument, first_option, is_used};
 ghost use Rattle.program_words.specs.Options.{json_flag, names_flag, output_option, places_flag};
-ghost use Rattle.program_words.specs.Options.{second_argument, show_option, strict_flag};
-ghost use Rattle.program_words.specs.Options.{sums_flag, truncated_flag, value_of};
+ghost use Rattle.program_words.specs.Options.{second_argument, show_option, strict_flag, sums_flag};
+ghost use Rattle.program_words.specs.Options.{truncated_flag, value_of};
 ghost use Rattle.program_words.specs.Options.{window_option, workers_option};
 ghost use Rattle.program_words.specs.Words.{AreTexts, AskForHelp, AskForVersion, FailsByRules};
 ghost use Rattle.program_words.specs.Words.{GivesHelp, GivesRequest, GivesVersion, HasApp, HasFiles};
@@ -20,7 +20,8 @@ ghost use Rattle.program_words.specs.Words.{make_command, not_text, options_in, 
 ghost use Rattle.program_words.specs.Words.{replayer_alone, rounds_command, run_command};
 ghost use Rattle.program_words.specs.Words.{serial_command, show_command, shown_in, sums_in};
 ghost use Rattle.program_words.specs.Words.{task_in, terms_in, with_cut, with_files, with_form};
-ghost use Rattle.program_words.specs.Words.{with_option, with_replays};
+ghost use Rattle.program_words.specs.Words.{with_option};
+ghost use Rattle.program_words.specs.Words.{with_replays};
 ghost use Rattle.program_words.specs.Limits.{IsServed};
 
 use clap::error::ErrorKind;
@@ -170,7 +171,8 @@ const MOST_PLACES: u32 = 4096;
 
 /// Reads the words after the program's name: `serial` and `run`, each with `--sums`, `--all-sums` and
 /// `--names` or without, `compare`, `rounds` and `depends`, with `--dot` or without, `show` with `--places`
-/// or without, `check`, `make` or `diff`, with `--strict` and `--truncated` or without. `run` and
+/// or without, `check`, `make` or `diff`, with `--strict`
+/// and `--truncated` or without. `run` and
 /// `compare` come with the numbers of workers and of places or without, `rounds` with that of places.
 /// Each has the names of its input and output or not. Each but `compare`, `show` and `make` comes with
 /// `--json` or without, `serial` and `run` also with `--cut`. Any other words are wrong, unless they ask for help or for the version.

@@ -5,10 +5,7 @@ use Rattle.program_words.proofs.words.terms_in.Goals as goal
 
 pub returns : goal.returns
 returns c =
-    λ command uses are.
-    let text = one_text (found_of c.args.matches.now) in
-    let strict = c.get_flag.ensures in
-    let truncated = c.get_flag-2.ensures in
+    λ command uses are. let text = one_text (found_of c.args.matches.now) in
     ap₂ (λ s t. record { strict = s; truncated = t })
-    (flag_told command uses text (codes "strict") c.get_flag.result refl are (record { none = strict.none; value = strict.value; other = strict.other }))
-    (flag_told command uses text (codes "truncated") c.get_flag-2.result refl are (record { none = truncated.none; value = truncated.value; other = truncated.other }))
+    (flag_told command uses text (codes "strict") c.get_flag.result refl are (record { none = c.get_flag.ensures.none; value = c.get_flag.ensures.value; other = c.get_flag.ensures.other }))
+    (flag_told command uses text (codes "truncated") c.get_flag-2.result refl are (record { none = c.get_flag-2.ensures.none; value = c.get_flag-2.ensures.value; other = c.get_flag-2.ensures.other }))
