@@ -233,7 +233,7 @@ def sixteen(tools: Tools, programs: List[Program], words: Sequence[str]) -> List
 
 
 # What the summary of sixteen.c has to say: an entry outside, a position that lseek(2) moved, two in flight at once.
-SAID, SAID_OF_2 = ("opcode 1", " and 1 seeks between submissions"), ("opcode 1", "a position that ordinary calls moved is made right")
+SAID, SAID_OF_2 = ("opcode 1", " and 1 seek between submissions"), ("opcode 1", "a position that ordinary calls moved is made right")
 ORDER = "requests in flight at once touch the same name"
 
 
