@@ -17,7 +17,7 @@ from mounted import Passthrough
 from recorded import SHARED, SOURCES, UNTRIED, Tools, lacking_in_system, ran_in, read_file
 
 # Each mode of marks.c, or of ordinary.c: in version 2 why entries are outside, in version 3 why they are given or outside, and how many lines of entries
-# are equal there at least. Where it is whole, nothing is outside in version 3.
+# are equal there at least, or given and alike. Where it is whole, nothing is outside in version 3.
 class Mode(NamedTuple):
     name: str
     marks: Sequence[str] = ()
@@ -114,8 +114,9 @@ def record(tools: Tools, program: Program, name: str, words: Sequence[str], comm
 
 
 def equal_entries(compared: Answer) -> int:
-    found = re.search(rb"^entries (\d+) equal", compared.output, re.M)
-    return int(found[1]) if found else -1
+    """How many lines of entries are equal, or given and alike."""
+    found = re.search(rb"^entries (\d+) equal, \d+ different, \d+ unchecked, (\d+) given$", compared.output, re.M)
+    return int(found[1]) + int(found[2]) if found else -1
 
 
 def mode(tools: Tools, program: Program, mode: Mode, words: Sequence[str]) -> Outcome:
