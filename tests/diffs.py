@@ -210,6 +210,7 @@ def counted() -> List[Counted]:
         Counted("bytes with their sum on one side", *pair(with_sum, long), (), b"", (1, 0, 0, 0), (1, 0, 0)),
         Counted("a sum alone, beside bytes with it", *pair(alone, with_sum), (STRICT,), b"", (1, 0, 0, 0)),
         Counted("a sum beside bytes that are all shown", *pair(alone, short_data), (), b"", (1, 0, 0, 0), (1, 0, 0)),
+        Counted("a sum alone, beside nothing", *pair(alone, "res=64"), (), b"", (1, 0, 0, 0), (1, 0, 0)),
         Counted("data without a value is shown", *pair("res=0 data=", "res=0 data="), (STRICT,), b"", (1, 0, 0, 0)),
         Counted("bytes of given entries are not counted", *pair(given + " data=31+", given), (STRICT,), b"", (0, 0, 0, 1)),
         Counted("bytes of unchecked entries are not counted", *pair(alike + " data=31", unchecked), (STRICT,), told("~", unchecked), (0, 0, 1, 0)),
@@ -244,6 +245,8 @@ def truncated() -> List[Counted]:
         cut("an entry of the second between those of the first", of_first(1, 3) + END, of_first(1, 2, 3), b"+ " + entry(2, 4), (2, 1, 0, 0), 4),
         cut("an entry of the second before the last of the first, which it passes", of_first(5) + END, of_first(3, 5, 6), b"+ " + entry(3, 4) + b"~ " + entry(6, 4), (1, 1, 1, 0), 4),
         cut("no entries in the first", HEADING + END, of_first(1, 2), b"~ " + entry(1, 4) + b"~ " + entry(2, 4), (0, 0, 2, 0)),
+        cut("no entries in the first, and the least place", HEADING + END, of_first(0), b"~ " + entry(0, 4), (0, 0, 1, 0)),
+        cut("cut off in a tree without its heading", three, of_first(1, 2) + b"dir /d node=1\nfi", third, (2, 0, 1, 0)),
         cut("a second that is not cut off", three, of_first(1, 2) + END, b"- " + entry(3, 4), (2, 1, 0, 0), 4),
     ]
 

@@ -59,7 +59,7 @@ def of_reports(program: Program, seed: int) -> Optional[str]:
 def as_compared(program: Program, text: bytes) -> Optional[str]:
     """The same of two reports in one text."""
     try:
-        told, are_alike = model_diff.difference(text)
+        told, are_alike = model_diff.difference(text, False, False)
         wanted = Answer(0 if are_alike else 4, told, b"")
     except model_diff.Refused as fault:
         wanted = reports_refused(str(fault))
@@ -145,7 +145,7 @@ def told_of_example(at: str, front: str, names: List[str]) -> Optional[str]:
 
 def of_recorded(at: str, front: str) -> Optional[str]:
     """How the report of a recorded trace and the kernel's results differ otherwise than by the counts that are told, if they do."""
-    told, _ = model_diff.difference(model.report(read(at, front + "trace")) + read(at, front + "kernel"))
+    told, _ = model_diff.difference(model.report(read(at, front + "trace")) + read(at, front + "kernel"), False, False)
     return difference(Answer(0, told[told.rindex(b"entries ") :], b""), Answer(0, read(at, front + "diff"), b""))
 
 

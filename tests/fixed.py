@@ -85,12 +85,12 @@ def as_kernel(trace: bytes, kernel: str, readers: Readers) -> str:
     return recorded.compared(readers["model_records"].report(trace).decode(), kernel).lines()
 
 
-def differences(given: Tuple[bytes, ...], readers: Readers) -> Answer:
+def differences(given: Tuple[bytes, ...], options: Tuple[str, ...], readers: Readers) -> Answer:
     """What `diff` answers of one input, or of two texts, each in a file of its own."""
-    model = readers["model_diff"]
+    model, terms = readers["model_diff"], [it in options for it in (diffs.STRICT, diffs.TRUNCATED)]
     try:
-        told, are_alike = model.difference(*given) if len(given) == 1 else model.difference_of_two(*given)
-        return Answer(0 if are_alike else 4, told, b"")
+        told, passes = model.difference(*given, *terms) if len(given) == 1 else model.difference_of_two(*given, *terms)
+        return Answer(0 if passes else 4, told, b"")
     except model.Refused as fault:
         return reports_refused(str(fault), model.early(*given) if len(given) == 2 else b"")
 
@@ -161,9 +161,14 @@ def of_streams() -> Iterator[Fixed]:
 
 def of_reports() -> Iterator[Fixed]:
     for it in diffs.refusals():
-        yield Fixed(it.name, partial(differences, (it.one, it.other)), reports_refused(it.line, it.early))
+        yield Fixed(it.name, partial(differences, (it.one, it.other), ()), reports_refused(it.line, it.early))
+    for it in diffs.refused_when_truncated():
+        yield Fixed(it.name, partial(differences, (it.one, it.other), (diffs.TRUNCATED,)), reports_refused(it.line, it.early))
+    for it in diffs.counted():
+        for given in ((it.one, it.other), (it.one + it.other,)):
+            yield Fixed(it.name, partial(differences, given, it.options), Answer(it.status, it.output(), b""))
     for name, text, wanted in (*reports.refusals(), *reports.refusals_by_places(), *reports.comparisons(), *reports.examples_by_places()):
-        yield Fixed(name, partial(differences, (text,)), wanted)
+        yield Fixed(name, partial(differences, (text,), ()), wanted)
 
 
 def answers() -> List[Fixed]:

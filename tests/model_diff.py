@@ -136,7 +136,7 @@ def closed(lines: List[bytes]) -> Optional[List[bytes]]:
     return [whole[0], *takewhile(is_entry, whole[1:]), END]
 
 
-def reports(first: List[bytes], second: List[bytes], truncated: bool = False) -> Tuple[Report, Report]:
+def reports(first: List[bytes], second: List[bytes], truncated: bool) -> Tuple[Report, Report]:
     cut = closed(second) if truncated else None
     second = cut or second
     both = [(side, report_in(side, lines)) for side, lines in (("first", first), ("second", second))]
@@ -150,7 +150,7 @@ def reports(first: List[bytes], second: List[bytes], truncated: bool = False) ->
     return one, two
 
 
-def two_reports(text: bytes, truncated: bool = False) -> Tuple[Report, Report]:
+def two_reports(text: bytes, truncated: bool) -> Tuple[Report, Report]:
     """Those of one input: the first goes to the first line `end`."""
     lines = text.split(b"\n")
     second = lines.index(END) + 1 if END in lines else len(lines)
@@ -192,12 +192,12 @@ def judged(one: Report, two: Report) -> Iterator[Judged]:
             yield Judged(line.section, *lone(b"+ ", line, one.end))
 
 
-def difference(text: bytes, strict: bool = False, truncated: bool = False) -> Tuple[bytes, bool]:
+def difference(text: bytes, strict: bool, truncated: bool) -> Tuple[bytes, bool]:
     """What `diff` tells of two reports in one input, and whether they pass; or it is Refused."""
     return told_of(*two_reports(text, truncated), strict)
 
 
-def difference_of_two(first: bytes, second: bytes, strict: bool = False, truncated: bool = False) -> Tuple[bytes, bool]:
+def difference_of_two(first: bytes, second: bytes, strict: bool, truncated: bool) -> Tuple[bytes, bool]:
     """The same of two texts."""
     return told_of(*reports(first.split(b"\n"), second.split(b"\n"), truncated), strict)
 

@@ -41,7 +41,8 @@ MODES = (
     Mode("alike_given", ["user", "descriptor"], marks_of_3=["user", "chain"], equal=1),
     Mode("into_the_queue", ["changed"], marks_of_3=["changed"]),
     Mode("unseen", ["descriptor", "chain"], ["descriptor"], ["unseen"], 5),
-    Mode("many_completions", ["opcode"], ["opcode"], equal=3),
+    # (no completion of it is seen)
+    Mode("many_completions", ["opcode"], ["opcode"], equal=0),
     Mode("refused", ["system", "memory", "flags", "polled"], ["system", "memory", "flags", "polled"], equal=5),
     Mode("chains", ["chain", "opcode", "descriptor"], ["opcode"], equal=8),
     Mode("other_root", equal=3),

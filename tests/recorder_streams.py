@@ -83,7 +83,8 @@ def told(program: Program) -> List[Outcome]:
         alone = ran_in(built.directory("alone-{}".format(at)), [built.file(name), *mode])
         made = record(program, "told{}".format(at), [], [built.file(name), *mode], recorder="strict_record")
         fault = made.fault if made.ran[:2] == alone[:2] else "{}, wanted {}".format(fault_of(made.ran), fault_of(alone))
-        if not fault and made.compared and not made.compared.counts["entries"][0]:
+        equal, _, _, given = made.compared.counts["entries"] if made.compared else (0, 0, 0, 0)
+        if not fault and made.compared and not equal + given:
             fault = "there is no entry to compare"
         outcomes.append(Outcome("version 3: {} {}".format(name, spoken(mode)), fault))
     for mode in BAD:
