@@ -20,10 +20,10 @@ with_entries (any.Whole t) text = of_whole.with_entries t text
 with_entries (any.Records t) text = of_records.with_entries t text
 
 -- The text of the comparison, with the entry of the trace below each line that differs and is of one.
-abbrev pub shown_differences : AnyTrace → List ℕ → List ℕ
+abbrev pub shown_differences : Terms → AnyTrace → List ℕ → List ℕ
 shown_differences terms t input = with_entries t (differences_in terms input)
 
-abbrev pub shown_differences_of_two : AnyTrace → List ℕ → List ℕ → List ℕ
+abbrev pub shown_differences_of_two : Terms → AnyTrace → List ℕ → List ℕ → List ℕ
 shown_differences_of_two terms t first second = with_entries t (differences_of_two terms first second)
 
 -- The reader of the trace was read to its end, and what it had left spells a trace.
