@@ -112,12 +112,10 @@ def placed(said: str, folder: str) -> Iterator[Fault]:
 
 
 def at_fault(edits: List[Edit], fault: Fault) -> List[Edit]:
-    """The edits to look at for a fault: those of its line, or of its file, or of its crate, or all."""
+    """The edits to look at for a fault: those of its line, or of its file."""
     at, _ = fault.place
-    crate = "/".join(at.split("/")[:2])
     by_line = [it for it in edits if fault.place in it.lines]
-    by_file = [it for it in edits if any(file == at for file, _ in it.lines)]
-    return by_line or by_file or [it for it in edits if it.path.startswith(crate + "/")] or edits
+    return by_line or [it for it in edits if any(file == at for file, _ in it.lines)]
 
 
 def stale(edits: List[Edit], compiled: Compiler = faults_of) -> List[str]:
@@ -127,15 +125,18 @@ def stale(edits: List[Edit], compiled: Compiler = faults_of) -> List[str]:
         faults = compiled(build)
         if faults and not told and compiled([]):
             return ["the crates do not compile without an edit: {}".format(faults[0].text)]
-        while faults:
-            suspects = [it for it in build if any(it in at_fault(build, fault) for fault in faults)]
-            told += [why for why in (fault_alone(it, compiled) for it in suspects) if why]
-            build = [it for it in build if it not in suspects]
-            faults = compiled(build) if build else []
+        told += stale_of(build, faults, compiled)
     return told
 
 
-def fault_alone(edit: Edit, compiled: Compiler) -> str:
-    """Why an edit does not compile alone, or nothing."""
-    faults = compiled([edit])
-    return "{}: it does not compile: {}: {}".format(edit.path, faults[0].place[0], faults[0].text) if faults else ""
+def stale_of(build: List[Edit], faults: List[Fault], compiled: Compiler) -> List[str]:
+    """Which edits of a build that has these faults do not compile alone: those at the places of the faults, or else in one of its halves."""
+    if not faults:
+        return []
+    if len(build) == 1:
+        return ["{}: it does not compile: {}: {}".format(build[0].path, faults[0].place[0], faults[0].text)]
+    suspects = [it for it in build if any(it in at_fault(build, fault) for fault in faults)]
+    parts = [[it] for it in suspects] + [[it for it in build if it not in suspects]]
+    if not suspects:
+        parts = [build[: len(build) // 2], build[len(build) // 2 :]]
+    return [why for part in parts if part for why in stale_of(part, compiled(part), compiled)]

@@ -4,7 +4,7 @@ from typing import List
 
 import refusals
 from harness import Count, Outcome
-from refusals import Kind
+from refusals import UNCLEAR, Kind
 
 
 class Told:
@@ -28,7 +28,7 @@ class Told:
         if edit and (edit.kind is Kind.BAD or refusals.BY_LIMIT in text):
             # `rt ci` says so, and goes on.
             self.outcomes.append(Outcome("the edit {}".format(edit.name), edit.kind.value))
-        elif edit and edit.kind in (Kind.LIMIT, Kind.PROOF, Kind.UNKNOWN):
+        elif edit and edit.kind in UNCLEAR:
             self.unshown.append(edit.name)
 
     def end(self, status: int, count: Count) -> None:

@@ -7,10 +7,12 @@ from typing import Dict, List
 
 import edit_days
 import edit_files
+import edit_trials
 import edits_together
 import gate
 import prover
 import refusals
+from days import today
 from edit_files import Edit
 from harness import Job, Outcome
 from refusals import Kind
@@ -60,7 +62,8 @@ def small_repository(top: str) -> List[Edit]:
         os.makedirs(os.path.dirname(os.path.join(top, name)), exist_ok=True)
         with open(os.path.join(top, name), "w", encoding="utf-8") as file:
             file.write(text)
-    for words in (["init", "-q"], ["add", "-A"]):
+    name = ["-c", "user.name=tests", "-c", "user.email=tests@localhost"]
+    for words in (["init", "-q"], ["add", "-A"], [*name, "commit", "-q", "-m", "planted"]):
         subprocess.run(["git", *words], cwd=top, check=True)
     return edit_files.looked_at(top)[0]
 
@@ -80,9 +83,9 @@ def planted_stale() -> List[Outcome]:
 def planted_proved() -> List[Outcome]:
     """Of three edits the prover takes the one that means the same, and refuses another by a goal that is false."""
     with tempfile.TemporaryDirectory(prefix="edits-") as top:
-        tried = edit_days.try_all(small_repository(top), top)
+        tried = edit_trials.try_all(small_repository(top), top)
     found = {os.path.basename(it.edit.path)[: -len(".edit")]: it.kind for it in tried}
-    faults = [it.split(":")[0] for it in edit_days.faults(tried)]
+    faults = [it.split(":")[0] for it in edit_trials.faults_of(tried)]
     return [
         wanted("planted edits by the prover", found, PROVED),
         wanted("those that are told", faults, ["crates/small/edits/a_name_that_is_gone.edit", "crates/small/edits/the_same_value.edit"]),
@@ -104,11 +107,15 @@ def builds() -> List[Outcome]:
         where = [3] if {one.path, other.path} <= names else [2] if two.path in names else []
         return [edits_together.Fault(("crates/small/src/lib.rt", it), "error: planted") for it in where]
 
+    def elsewhere(edits: List[Edit]) -> List[edits_together.Fault]:
+        return [edits_together.Fault(("crates/other/src/lib.rt", 1), "error: planted")] if other in edits else []
+
     told = edits_together.stale([one, two, other], compiled)
     broken = edits_together.stale([one], lambda edits: [edits_together.Fault(("", 0), "all fails")])
     return [
         wanted("two edits of a line are in two builds", apart, [{one.path, other.path}, {two.path}]),
         wanted("what is stale, beside what does not go together", [it.split(":")[0] for it in told], [two.path]),
+        wanted("what is stale by a fault elsewhere", [it.split(":")[0] for it in edits_together.stale([one, two, other], elsewhere)], [other.path]),
         wanted("crates that do not compile", broken, ["the crates do not compile without an edit: all fails"]),
     ]
 
@@ -143,8 +150,30 @@ def kinds() -> List[Outcome]:
         wanted("kinds by rt", [refusals.told_by(it).kind for it, _ in BY_RT], [it for _, it in BY_RT]),
         wanted("the kind that tells most", refusals.of_lines([it for it, _ in SAMPLES[1:]]), Kind.OPEN),
         wanted("what the gate fails: a bad edit, and one that a limit of the prover refuses", len(told.outcomes), 2),
-        wanted("what the gate is not shown", len(told.unshown), sum(it in (Kind.LIMIT, Kind.PROOF, Kind.UNKNOWN) for _, it in BY_RT) - 1),
+        wanted("what the gate is not shown", len(told.unshown), sum(it in refusals.UNCLEAR for _, it in BY_RT) - 1),
     ]
+
+
+def places() -> List[Outcome]:
+    """The functions in which lines stand, and the modules of files."""
+    lines = SMALL["crates/small/src/lib.rt"].split("\n")
+    named = [prover.function_at(lines, number) for number in (2, 4, 6, 8, 9, 10)]
+    modules = [prover.module_of("crates/small/src/" + it) for it in ("lib.rt", "a.rt", "a/mod.rt", "a/b.rt")]
+    return [
+        wanted("the functions of lines", named, ["", "after", "after", "after", "", ""]),
+        wanted("the modules of files", modules, ["", "a", "a", "a::b"]),
+    ]
+
+
+def faults() -> List[Outcome]:
+    """Which kinds fail: of edits that are not listed, of those that are, and of those that nobody has looked at."""
+    fails = {
+        listed: {kind for kind in Kind if edit_trials.fault_of(edit_trials.Tried(edit("one", 1), kind, ""), listed)}
+        for listed in (None, Kind.PROOF, Kind.UNTRIED)
+    }
+    others = {Kind.PROVED, Kind.BAD, Kind.UNTRIED}
+    shown, unclear = set(refusals.SHOWN), set(refusals.UNCLEAR)
+    return [wanted("kinds that fail", fails, {None: others | unclear, Kind.PROOF: others | shown, Kind.UNTRIED: others})]
 
 
 def days() -> List[Outcome]:
@@ -152,14 +181,25 @@ def days() -> List[Outcome]:
     edits, _ = edit_files.looked_at()
     all_in_turn = {it.path for those in edit_days.in_turn(edits).values() for it in those}
     missed = [first for first in range(edit_days.CYCLE) if {it.path for day in range(edit_days.CYCLE) for it in edit_days.due(edits, first + day)} != all_in_turn]
-    some = edit_days.due(edits, 100)[0]
-    last = edit_days.last_tried(some, edits, 100 + edit_days.CYCLE)
+    with tempfile.TemporaryDirectory(prefix="edits-") as top:
+        planted = {it.path for it in small_repository(top)}
+        now = {it for it in edit_days.changed(today(), top) if it.endswith(".edit")}
+        later = edit_days.changed(today() + 2, top)
+        with open(os.path.join(top, "crates/small/src/lib.rt"), "a", encoding="utf-8") as file:
+            file.write("\n")
+        touched = edit_days.changed(today() + 2, top)
+        commit = subprocess.run(["git", "log", "-1", "--format=%h"], cwd=top, stdout=subprocess.PIPE, check=True).stdout.decode().strip()
+        some = edit_days.due(edits, today())[0]
+        last = edit_days.last_tried(some, edits, today() + edit_days.CYCLE, top)
+        before_all = edit_days.last_tried(some, edits, today(), top)
     return [
         wanted("each edit is due within a cycle", missed, []),
-        wanted("when an edit was last due", last.partition(",")[0], edit_days.date_of(100)),
+        wanted("when an edit was last due, and the commit", (last, before_all), ("{}, at commit {}".format(edit_days.date_of(today()), commit), "")),
+        wanted("what a commit of the day changed", now, planted),
+        wanted("what none changed, and what is not committed", (later, touched), (set(), {"crates/small/src/lib.rt"})),
         wanted("a crate without a day is told", len(edit_days.without_a_day([edit("one", 1)])), 1 + len(edit_days.DAILY) + sum(map(len, edit_days.DAYS))),
     ]
 
 
 def jobs() -> List[Job]:
-    return [planted_stale, planted_proved, builds, unfit, kinds, days]
+    return [planted_stale, planted_proved, builds, unfit, kinds, places, faults, days]

@@ -16,7 +16,7 @@ from edits_together import changed
 from refusals import Kind
 
 PARTS = ("src", "specs", "proofs")
-FUNCTION = re.compile(r"^\s*(?:pub(?:\([a-z]+\))? )?(?:const )?fn (\w+)")
+FUNCTION = re.compile(r"^(\s*)(?:pub(?:\([a-z]+\))? )?(?:const )?fn (\w+)")
 NOTE = re.compile(r"(?:note: )?\S+:\d+:\d+: ")
 # What is said of a text that cannot be read, where one that is only false reads well.
 UNREAD = re.compile(r".*\berror\[|(?:\./)?(?:src|specs)/\S+:\d+:\d+: error: .*(?:is not in scope|has no field|is no name|is missing|expected the end)")
@@ -113,11 +113,17 @@ class Prover:
         """Whether the libraries below are there, so that the crate can be checked."""
         return self.check(Edit(self.crate.name, "", {}), [""]).returncode == 0
 
+    def made_ready(self) -> bool:
+        """Has the crates below checked that have to be, and says whether this one can be checked then."""
+        how = {"stdin": subprocess.DEVNULL, "stdout": subprocess.DEVNULL, "stderr": subprocess.DEVNULL}
+        return subprocess.run(["rt", "check"], cwd=self.folder, **how).returncode == 0 and self.is_ready()
+
     def tried(self, edit: Edit) -> Found:
         """Tries an edit. Where a kept proof no longer fits, its goals are searched without it."""
-        for only in (self.functions(edit), self.modules(edit)):
+        for only in (self.functions(edit), self.modules(edit), []):
             ran = self.check(edit, only)
-            if ran.returncode != 2:
+            # The name of a function may fit several; and what is proved alone is tried with all that calls it.
+            if ran.returncode not in (0, 2):
                 break
         found = kind_of(ran)
         if found.kind is not Kind.PROOF:
@@ -139,18 +145,29 @@ class Prover:
         return Found(Kind.OPEN, opened[0]) if opened else None
 
     def functions(self, edit: Edit) -> List[str]:
-        """The names of the functions that an edit changes; of what stands in none, its module."""
+        """The names of the functions that an edit changes, or none if it changes what stands in no function."""
         found = []
         for at, number in sorted(edit.lines):
             if at.startswith("crates/{}/src/".format(self.crate.name)):
                 with open(os.path.join(self.top, at), encoding="utf-8") as file:
-                    named = [it[1] for it in map(FUNCTION.match, file.read().split("\n")[:number]) if it]
-                found.append(named[-1] if named else module_of(at))
-        return list(dict.fromkeys(found))
+                    found.append(function_at(file.read().split("\n"), number))
+        return list(dict.fromkeys(found)) if all(found) else []
 
     def modules(self, edit: Edit) -> List[str]:
         """The modules that it changes."""
         return list(dict.fromkeys(module_of(at) for at, _ in sorted(edit.lines) if at.startswith("crates/{}/src/".format(self.crate.name))))
+
+
+def function_at(lines: List[str], number: int) -> str:
+    """The name of the function in which a line stands, or nothing."""
+    name, end = "", ""
+    for line in lines[:number]:
+        found = FUNCTION.match(line)
+        if found:
+            name, end = found[2], found[1] + "}"
+        elif line == end:
+            name, end = "", ""
+    return name
 
 
 def module_of(at: str) -> str:

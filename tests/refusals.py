@@ -23,6 +23,8 @@ class Kind(enum.Enum):
 
 # Those that show that a contract refuses the edit.
 SHOWN = (Kind.FALSE, Kind.OPEN)
+# Those that are refused, and do not show it.
+UNCLEAR = (Kind.LIMIT, Kind.PROOF, Kind.UNKNOWN)
 
 GOAL = re.compile(r"^note: \S+:\d+:\d+: (it is not proved that |`search` found no proof)")
 PROOF = re.compile(r"^(note: )?(\./)?proofs/\S+:\d+:\d+: ")
